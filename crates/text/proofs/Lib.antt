@@ -1,0 +1,7 @@
+pub mod Cases
+pub mod Checks
+pub mod Front
+pub mod Laws
+pub mod Numbers
+pub mod Reach
+pub mod Words

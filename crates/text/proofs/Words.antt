@@ -1,0 +1,68 @@
+-- The laws of `begins` and `spells`. Assumes nothing.
+use mathlib.Core.Path.{_≡_, refl, sym, ap, ap₂, _∙_}
+use mathlib.Core.Bool.{Bool, true, false, not, _&&_, false≢true}
+use mathlib.Core.List.{List, [], _∷_, _++_, nil≢cons, head-eq-of-cons-eq, tail-eq-of-cons-eq}
+use Prim.Native.Nat.{ℕ, _+_, _≤_, _<_}
+use native.Mathlib.Numerals.{add-one}
+use native.Mathlib.Omega.{arith}
+use borrow.Author.Tests.{not-true, not-false, eqb-true, eq-eqb}
+use lib.Dec.{eqb}
+use lib.ListN.{length, take, drop, getD, drop-of-length-le}
+use lib.Seq.{drop-cons}
+use Rattle.text.proofs.Cases.{both}
+use Rattle.text.proofs.Laws.{scan}
+use Rattle.text.specs.Word.{begins, spells}
+use Rattle.text.specs.declared.refusal.Span.{Span}
+
+-- the loop that compares: `e` is the answer, which a turn keeps; `r` is the test that the code made
+module _ (w s : List ℕ) (i at : ℕ) (e : Bool) (inv : begins (drop i w) (drop at s) ≡ e) where
+  pub word-end : length w ≤ i → true ≡ e
+  unfolding begins
+  word-end h = sym (rw (drop-of-length-le w h)) ∙ inv
+
+  pub word-short : i < length w → length s ≤ at → false ≡ e
+  unfolding begins
+  word-short h l = rw (drop-cons w i 0 h, drop-of-length-le s l) at inv
+
+  module _ (h : i < length w) (l : at < length s) (r : Bool) (told : r ≡ eqb (getD s at 0) (getD w i 0)) where
+    pub word-differs : not r ≡ true → false ≡ e
+    unfolding begins
+    word-differs t = rw (drop-cons w i 0 h, drop-cons s at 0 l, ← told, not-true r t) at inv
+
+    pub word-turn : not r ≡ false → begins (drop (i + 1) w) (drop (at + 1) s) ≡ e
+    unfolding begins
+    word-turn t = rw (add-one, add-one) (rw (drop-cons w i 0 h, drop-cons s at 0 l, ← told, not-false r t) at inv)
+
+pub ruleset word = (word-end, word-short, word-differs, word-turn, scan)
+
+-- a text begins with a word exactly if its first bytes are the word
+pub begins-word : (w s : List ℕ) → begins w s ≡ true → take (length w) s ≡ w
+unfolding begins
+begins-word [] s h = refl
+begins-word (a ∷ w) [] h = absurd (false≢true h)
+begins-word (a ∷ w) (b ∷ s) h =
+    let (first, rest) = both (eqb b a) (begins w s) h in
+    ap₂ _∷_ (eqb-true b a first) (begins-word w s rest)
+
+pub word-begins : (w s : List ℕ) → take (length w) s ≡ w → begins w s ≡ true
+unfolding begins
+word-begins [] s h = refl
+word-begins (a ∷ w) [] h = absurd (nil≢cons h)
+word-begins (a ∷ w) (b ∷ s) h = rw (eq-eqb b a (head-eq-of-cons-eq h)) (word-begins w s (tail-eq-of-cons-eq h))
+
+-- and so a span is a word exactly if its bytes are the word
+module _ (w s : List ℕ) (span : Span) where
+  pub spells-bytes : spells w s span ≡ true → take (span .len) (drop (span .start .0) s) ≡ w
+  spells-bytes h =
+      let (long, there) = both (eqb (span .len) (length w)) (begins w (drop (span .start .0) s)) h in
+      rw (eqb-true (span .len) (length w) long) (begins-word w (drop (span .start .0) s) there)
+
+  pub bytes-spells : span .len ≡ length w → take (span .len) (drop (span .start .0) s) ≡ w → spells w s span ≡ true
+  bytes-spells long there = rw (eq-eqb (span .len) (length w) long) (word-begins w (drop (span .start .0) s) (rw long at there))
+
+-- what follows the text does not matter where the text is as long as the word
+pub begins-local : (w s t : List ℕ) → length w ≤ length s → begins w (s ++ t) ≡ begins w s
+unfolding begins
+begins-local [] s t h = refl
+begins-local (a ∷ w) [] t h = absurd (omega arith)
+begins-local (a ∷ w) (b ∷ s) t h = ap (λ (r : Bool). eqb b a && r) (begins-local w s t (omega arith))

@@ -1,0 +1,19 @@
+use Rattle.text.specs.Class.{isSpace}
+use Rattle.text.proofs.Laws.{scan, Along, left}
+use Rattle.text.proofs.cursor.Cursor.skip_whitespace.Statement.{statement}
+use Rattle.text.proofs.cursor.Cursor.skip_whitespace.Tie as tie
+
+pub skip-whitespace-spec : {M : Type 1} → statement M
+skip-whitespace-spec =
+    tie.close
+    (tie.spec
+    (Along isSpace)
+    left
+    (λ c. search scan)
+    (λ c. search scan)
+    (λ c κs. search scan)
+    (λ c. search scan)
+    (λ c. search scan)
+    (λ c. search scan)
+    (λ c. search scan)
+    (λ c. search scan))

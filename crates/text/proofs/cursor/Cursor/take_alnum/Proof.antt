@@ -1,0 +1,19 @@
+use Rattle.text.specs.Class.{isAlnum}
+use Rattle.text.proofs.Laws.{scan, Along, left}
+use Rattle.text.proofs.cursor.Cursor.take_alnum.Statement.{statement}
+use Rattle.text.proofs.cursor.Cursor.take_alnum.Tie as tie
+
+pub take-alnum-spec : {M : Type 1} → statement M
+take-alnum-spec =
+    tie.close
+    (tie.spec
+    (Along isAlnum)
+    left
+    (λ c. search scan)
+    (λ c. search scan)
+    (λ c κs. search scan)
+    (λ c. search scan)
+    (λ c. search scan)
+    (λ c. search scan)
+    (λ c. search scan)
+    (λ c. search scan))

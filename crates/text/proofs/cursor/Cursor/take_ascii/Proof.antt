@@ -1,0 +1,19 @@
+use Rattle.text.specs.Class.{isAscii}
+use Rattle.text.proofs.Laws.{scan, Along, left}
+use Rattle.text.proofs.cursor.Cursor.take_ascii.Statement.{statement}
+use Rattle.text.proofs.cursor.Cursor.take_ascii.Tie as tie
+
+pub take-ascii-spec : {M : Type 1} → statement M
+take-ascii-spec =
+    tie.close
+    (tie.spec
+    (Along isAscii)
+    left
+    (λ c. search scan)
+    (λ c. search scan)
+    (λ c κs. search scan)
+    (λ c. search scan)
+    (λ c. search scan)
+    (λ c. search scan)
+    (λ c. search scan)
+    (λ c. search scan))

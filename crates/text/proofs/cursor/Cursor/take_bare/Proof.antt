@@ -1,0 +1,19 @@
+use Rattle.text.specs.Class.{isBareByte}
+use Rattle.text.proofs.Laws.{scan, Along, left}
+use Rattle.text.proofs.cursor.Cursor.take_bare.Statement.{statement}
+use Rattle.text.proofs.cursor.Cursor.take_bare.Tie as tie
+
+pub take-bare-spec : {M : Type 1} → statement M
+take-bare-spec =
+    tie.close
+    (tie.spec
+    (Along isBareByte)
+    left
+    (λ c. search scan)
+    (λ c. search scan)
+    (λ c κs. search scan)
+    (λ c. search scan)
+    (λ c. search scan)
+    (λ c. search scan)
+    (λ c. search scan)
+    (λ c. search scan))

@@ -1,0 +1,19 @@
+use Rattle.text.specs.Class.{isEnclosedByte}
+use Rattle.text.proofs.Laws.{scan, Along, left}
+use Rattle.text.proofs.cursor.Cursor.take_enclosed.Statement.{statement}
+use Rattle.text.proofs.cursor.Cursor.take_enclosed.Tie as tie
+
+pub take-enclosed-spec : {M : Type 1} → statement M
+take-enclosed-spec =
+    tie.close
+    (tie.spec
+    (Along isEnclosedByte)
+    left
+    (λ c. search scan)
+    (λ c. search scan)
+    (λ c κs. search scan)
+    (λ c. search scan)
+    (λ c. search scan)
+    (λ c. search scan)
+    (λ c. search scan)
+    (λ c. search scan))

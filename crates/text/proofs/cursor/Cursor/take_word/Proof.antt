@@ -1,0 +1,19 @@
+use Rattle.text.specs.Class.{isWordByte}
+use Rattle.text.proofs.Laws.{scan, Along, left}
+use Rattle.text.proofs.cursor.Cursor.take_word.Statement.{statement}
+use Rattle.text.proofs.cursor.Cursor.take_word.Tie as tie
+
+pub take-word-spec : {M : Type 1} → statement M
+take-word-spec =
+    tie.close
+    (tie.spec
+    (Along isWordByte)
+    left
+    (λ c. search scan)
+    (λ c. search scan)
+    (λ c κs. search scan)
+    (λ c. search scan)
+    (λ c. search scan)
+    (λ c. search scan)
+    (λ c. search scan)
+    (λ c. search scan))
