@@ -7,7 +7,7 @@ use lib.ListN.{drop, getD}
 -- the length of the longest prefix whose elements are all of class p
 unfoldable pub run : {A : Type 0} → (A → Bool) → List A → ℕ
 run p [] = 0
-run p (b ∷ s) = cond (p b) (suc (run p s)) 0
+run p (b ∷ s) = let more = suc (run p s) in cond (p b) more 0
 
 -- the place after the run of class p that starts at `at`
 unfoldable pub skip : {A : Type 0} → (A → Bool) → List A → ℕ → ℕ
