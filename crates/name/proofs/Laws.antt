@@ -8,10 +8,10 @@ use native.Mathlib.Omega.{arith}
 use borrow.Author.Tests.{lt-ltb, le-ltb}
 use lib.ListN.{length, drop, getD, drop-of-length-le}
 use lib.Seq.{drop-cons}
-use Rattle.text.proofs.Cases.{cases, by-order, within-true}
+use Rattle.text.proofs.Cases.{cases, by-order}
 use Rattle.text.proofs.Front.{Front, front, count-one, front-room}
 use Rattle.text.proofs.Reach.{run-le}
-use Rattle.text.specs.Class.{isCapital, isSeparator, isNameByte}
+use Rattle.text.specs.Class.{isSeparator, isNameByte}
 use Rattle.text.specs.Scan.{run, byteAt}
 use Rattle.text.proofs.Laws.{given-is}
 use Rattle.text.specs.Answer.{good}
@@ -20,9 +20,6 @@ use Rattle.text.specs.declared.refusal.Fault.the-variants.{NameBad, OutputShort
 use Rattle.text.specs.declared.refusal.Refusal.{Refusal}
 use Rattle.name.specs.Normal.{form, goes, normal, badAt}
 use Rattle.name.specs.Normalise.{normalised, output}
-
-pub capital-fits : (r : Bool) (b : ℕ) → r ≡ isCapital b → r ≡ true → b + 32 < 256
-capital-fits r b told h = omega (arith, within-true 65 90 b (sym told ∙ h))
 
 -- the normal form of a text by its first byte
 module _ (l : List ℕ) (b : ℕ) (t : List ℕ) (e : l ≡ b ∷ t) where
@@ -104,4 +101,4 @@ module _ (s out : List ℕ) (bad : ℕ) (found : bad ≡ badAt s) where
     pub written-out : (now : List ℕ) → n ≤ length out → now ≡ normal s ++ drop (length (normal s)) out → now ≡ output s out
     written-out now l e = rw (← found, le-ltb bad (length s), ← size, le-ltb (length out) n, size) e
 
-pub ruleset normals = (bad-front, bad-inside, bad-last, bad-none, last-some, normal-gone, normal-kept, normal-end, kept-count, kept-room, capital-fits, answer-bad, kept-bad, answer-short, kept-short, answer-written, written-out, front, cases)
+pub ruleset normals = (bad-front, bad-inside, bad-last, bad-none, last-some, normal-gone, normal-kept, normal-end, kept-count, kept-room, answer-bad, kept-bad, answer-short, kept-short, answer-written, written-out, front, cases)

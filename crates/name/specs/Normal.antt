@@ -1,16 +1,16 @@
 -- Document 01's normal form of a name, and its first bad byte.
-use Prim.Native.Nat.{ℕ, _+_, _-_}
+use Prim.Native.Nat.{ℕ, _-_}
 use Prim.Native.Char.{code}
 use mathlib.Core.Bool.{Bool, cond, _&&_}
 use mathlib.Core.List.{List, [], _∷_}
 use lib.Dec.{ltb}
 use lib.ListN.{length}
-use Rattle.text.specs.Class.{isCapital, isSeparator, isNameByte}
+use Rattle.text.specs.Class.{small, isSeparator, isNameByte}
 use Rattle.text.specs.Scan.{run, byteAt}
 
 -- "capitals become small; each run of `.` `-` `_` becomes one `-`": a byte of a run, and any other
 abbrev pub form : ℕ → ℕ
-form b = cond (isSeparator b) (code "-") (cond (isCapital b) (b + 32) b)
+form b = cond (isSeparator b) (code "-") (small b)
 
 -- whether a text's first byte goes: a separator that another follows, so that of a run one stays
 abbrev pub goes : List ℕ → Bool

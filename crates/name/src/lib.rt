@@ -24,10 +24,8 @@ fn formed(b: u8) -> u8
 {
     if text::is_separator(b) {
         b'-'
-    } else if text::is_capital(b) {
-        b + 32
     } else {
-        b
+        text::small_of(b)
     }
 }
 

@@ -1,12 +1,13 @@
 -- A definition that goes by tests, `cond t x y`, against code that made the tests: each law takes one `cond` off the goal, and `search cases`
 -- goes through them all. The code's value `r` need not be the definition's: `r ≡ t`, found by search, says that it is the same. Assumes nothing.
-use mathlib.Core.Path.{_≡_, refl}
+use mathlib.Core.Path.{_≡_, refl, sym, _∙_}
 use mathlib.Core.Bool.{Bool, true, false, cond, _&&_, false≢true}
-use Prim.Native.Nat.{ℕ, _≤_, _<_}
+use Prim.Native.Nat.{ℕ, _+_, _≤_, _<_}
+use native.Mathlib.Omega.{arith}
 use borrow.Author.Needs.{needs}
 use borrow.Author.Tests.{lt-ltb, le-ltb, eq-eqb, ne-eqb, leb-true, ltb-true, ltb-false}
 use lib.Dec.{ltb, leb, eqb}
-use Rattle.text.specs.Class.{within}
+use Rattle.text.specs.Class.{within, isCapital}
 
 -- a test that a call made
 module _ {A : Type 0} (z x y : A) (r t : Bool) (told : r ≡ t) where
@@ -49,3 +50,7 @@ pub within-true : (lo hi b : ℕ) → within lo hi b ≡ true → (lo ≤ b) × 
 within-true lo hi b h =
     let p = both (leb lo b) (leb b hi) h in
     (leb-true lo b (p .0), leb-true b hi (p .1))
+
+-- so a capital's small letter is a byte
+pub capital-fits : (r : Bool) (b : ℕ) → r ≡ isCapital b → r ≡ true → b + 32 < 256
+capital-fits r b told h = omega (arith, within-true 65 90 b (sym told ∙ h))

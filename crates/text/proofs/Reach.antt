@@ -8,6 +8,7 @@ use native.Mathlib.Omega.{arith}
 use lib.ListN.{length, getD, take, drop, length-append, length-take, length-drop, List·getD-append}
 use lib.Seq.{drop-append-add, take-append-seam, take-length, getD-drop, getD-take, getD-append-add}
 use Rattle.text.proofs.Cases.{by-order}
+use Rattle.text.proofs.Laws.{skip-stop, skip-end}
 use Rattle.text.specs.Scan.{run, skip}
 
 module _ {A : Type 0} (p : A → Bool) where
@@ -81,6 +82,13 @@ module _ {A : Type 0} (p : A → Bool) where
     -- so what follows the text where it stopped is not looked at
     pub skip-before : (t : List A) → skip p s at < length s → skip p (s ++ t) at ≡ skip p s at
     skip-before t stop = skip-local (s ++ t) (length s) stop (omega arith) (take-length s ∙ sym (take-append-seam s t))
+
+    -- where it stopped it stays
+    pub skip-again : skip p s (skip p s at) ≡ skip p s at
+    skip-again =
+        by-order (skip p s at) (length s)
+        (λ within. skip-stop p s (skip p s at) d within (skip-out s at d within))
+        (λ ended. skip-end p s (skip p s at) ended)
 
     -- a text in front moves the stop by its length
     pub skip-shift : (r : List A) → skip p (r ++ s) (length r + at) ≡ length r + skip p s at

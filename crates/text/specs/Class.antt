@@ -1,7 +1,7 @@
 -- The byte classes of document 01, as tests that compute.
-use Prim.Native.Nat.{ℕ}
+use Prim.Native.Nat.{ℕ, _+_}
 use Prim.Native.Char.{code}
-use mathlib.Core.Bool.{Bool, _&&_, _||_, not}
+use mathlib.Core.Bool.{Bool, cond, _&&_, _||_, not}
 use lib.Dec.{leb, ltb, eqb}
 
 -- from one byte to another, both counted
@@ -22,6 +22,10 @@ isDigit b = within (code "0") (code "9") b
 -- "capitals become small"
 abbrev pub isCapital : ℕ → Bool
 isCapital b = within (code "A") (code "Z") b
+
+-- .. : a capital is 32 below its small letter
+abbrev pub small : ℕ → ℕ
+small b = cond (isCapital b) (b + 32) b
 
 abbrev pub isLetter : ℕ → Bool
 isLetter b = within (code "a") (code "z") b || isCapital b

@@ -14,11 +14,14 @@ abbrev pub bytes : String → List ℕ
 bytes S.[] = []
 bytes (S._∷_ c s) = code c ∷ bytes s
 
--- whether a text begins with a word
-unfoldable pub begins : List ℕ → List ℕ → Bool
-begins [] s = true
-begins (w ∷ word) [] = false
-begins (w ∷ word) (b ∷ s) = eqb b w && begins word s
+-- whether a text begins with a word, its bytes being alike
+unfoldable pub beginsBy : (ℕ → ℕ → Bool) → List ℕ → List ℕ → Bool
+beginsBy alike [] s = true
+beginsBy alike (w ∷ word) [] = false
+beginsBy alike (w ∷ word) (b ∷ s) = alike b w && beginsBy alike word s
+
+abbrev pub begins : List ℕ → List ℕ → Bool
+begins word s = beginsBy eqb word s
 
 -- whether a span of a line is a word
 abbrev pub spells : List ℕ → List ℕ → Span → Bool

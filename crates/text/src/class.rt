@@ -1,6 +1,6 @@
 // The byte classes. `&` and `|` on bools take no branch: each test is its definition, and runs fast.
 ghost use mathlib.Core.Path.{_≡_};
-ghost use Rattle.text.specs.Class.{isAscii, isSpace, isDigit, isCapital, isLetter, isAlnum, isSeparator, isNameByte, isOperatorByte, isQuote, isTokenByte, isWordByte, isOperatorWordByte, isBareByte, isEnclosedByte, isOther};
+ghost use Rattle.text.specs.Class.{isAscii, isSpace, isDigit, isCapital, small, isLetter, isAlnum, isSeparator, isNameByte, isOperatorByte, isQuote, isTokenByte, isWordByte, isOperatorWordByte, isBareByte, isEnclosedByte, isOther};
 
 pub fn is_ascii(b: u8) -> bool
     ensures { λ r. ⌜ r ≡ isAscii b ⌝ }
@@ -24,6 +24,13 @@ pub fn is_capital(b: u8) -> bool
     ensures { λ r. ⌜ r ≡ isCapital b ⌝ }
 {
     (b'A' <= b) & (b <= b'Z')
+}
+
+// A letter's small form; any other byte is its own.
+pub fn small_of(b: u8) -> u8
+    ensures { λ r. ⌜ r ≡ small b ⌝ }
+{
+    if is_capital(b) { b + 32 } else { b }
 }
 
 pub fn is_letter(b: u8) -> bool

@@ -24,6 +24,7 @@ pub use class::is_separator;
 pub use class::is_space;
 pub use class::is_token_byte;
 pub use class::is_word_byte;
+pub use class::small_of;
 pub use cursor::Cursor;
 pub use cursor::Peek;
 pub use cursor::Step;

@@ -1,0 +1,7 @@
+pub mod Examples
+pub mod Joins
+pub mod Layouts
+pub mod Lists
+pub mod Numbers
+pub mod Parts
+pub mod Specifiers

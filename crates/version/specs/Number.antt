@@ -1,0 +1,20 @@
+-- A number of a version.
+use Prim.Native.Nat.{ℕ, _+_, _-_, _*_}
+use Prim.Native.Char.{code}
+use mathlib.Core.Bool.{cond}
+use mathlib.Core.List.{List, [], _∷_}
+use lib.Dec.{leb}
+use Rattle.text.specs.Class.{isDigit}
+use Rattle.text.specs.Scan.{run}
+
+-- what the digits in front say, after digits that said v
+unfoldable pub valueFrom : ℕ → List ℕ → ℕ
+valueFrom v [] = v
+valueFrom v (b ∷ s) = let more = valueFrom (10 * v + (b - code "0")) s in cond (isDigit b) more v
+
+abbrev pub value : List ℕ → ℕ
+value s = valueFrom 0 s
+
+-- "at most 18,446,744,073,709,551,615, else the text is no version": how many bytes the number in front takes, 0 where none is there
+unfoldable pub numberLen : List ℕ → ℕ
+numberLen s = cond (leb (value s) 18_446_744_073_709_551_615) (run isDigit s) 0
