@@ -1,3 +1,4 @@
+pub mod Appendix
 pub mod Examples
 pub mod Joins
 pub mod Layouts

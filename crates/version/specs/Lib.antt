@@ -1,3 +1,4 @@
+pub mod Appendix
 pub mod Joined
 pub mod Layout
 pub mod Number
