@@ -5,7 +5,7 @@ use mathlib.Core.List.{List, [], _∷_, _++_, nil≢cons, head-eq-of-cons-eq, ta
 use Prim.Native.Nat.{ℕ, _+_, _≤_, _<_, zero-le, suc-le-suc}
 use native.Mathlib.Numerals.{add-one}
 use native.Mathlib.Omega.{arith}
-use borrow.Author.Tests.{not-true, not-false, eqb-true, eq-eqb}
+use borrow.Author.Tests.{not-true, not-false, eqb-true, eq-eqb, ne-eqb}
 use lib.Dec.{eqb}
 use lib.ListN.{length, take, drop, getD, drop-of-length-le}
 use lib.Seq.{drop-cons}
@@ -33,7 +33,15 @@ module _ (alike : ℕ → ℕ → Bool) (w s : List ℕ) (i at : ℕ) (e : Bool)
     unfolding beginsBy
     word-turn t = rw (add-one, add-one) (rw (drop-cons w i 0 h, drop-cons s at 0 l, ← told, not-false r t) at inv)
 
-pub ruleset word = (word-end, word-short, word-differs, word-turn, scan)
+-- a word of another length is not the span's
+module _ (m n : ℕ) (t : Bool) where
+  pub length-same : (r : Bool) → m ≡ n → r ≡ t → r ≡ (eqb m n && t)
+  length-same r e told = rw (eq-eqb m n e) told
+
+  pub length-other : (m ≡ n → ⊥) → false ≡ (eqb m n && t)
+  length-other e = rw (ne-eqb m n e)
+
+pub ruleset word = (length-same, length-other, word-end, word-short, word-differs, word-turn, scan)
 
 -- a text begins with a word exactly if its first bytes are the word
 pub begins-word : (w s : List ℕ) → begins w s ≡ true → take (length w) s ≡ w

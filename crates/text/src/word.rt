@@ -30,9 +30,12 @@ pub fn word_at(line: &[u8], start: usize, word: &[u8]) -> bool
     true
 }
 
-// Whether a span is a word.
+// Whether a span is a word. The lengths tell most words apart before a byte is read.
 pub fn spelled(line: &[u8], span: Span, word: &[u8]) -> bool
     ensures { λ r. ⌜ r ≡ spells (now (word .entry)) (now (line .entry)) span ⌝ }
 {
-    (span.len == word.len()) & word_at(line, span.start.0, word)
+    if span.len == word.len() {
+        return word_at(line, span.start.0, word);
+    }
+    false
 }

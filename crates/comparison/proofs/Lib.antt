@@ -1,0 +1,6 @@
+pub mod Examples
+pub mod Finds
+pub mod Further
+pub mod Laws
+pub mod Mirror
+pub mod Values

@@ -1,0 +1,10 @@
+use Rattle.comparison.proofs.Laws.{judging}
+use Rattle.comparison.proofs.judge.is_compatible.Statement.{statement}
+use Rattle.comparison.proofs.judge.is_compatible.Tie as tie
+
+pub is-compatible-spec : {M : Type 1} → statement M
+is-compatible-spec =
+    tie.close
+    (tie.spec
+    (λ c κs. search judging)  -- code-of-requires
+    (λ c. cc))  -- returns

@@ -1,0 +1,17 @@
+use Rattle.comparison.proofs.Laws.{judging}
+use Rattle.comparison.proofs.judge.with_extra_left.Statement.{statement}
+use Rattle.comparison.proofs.judge.with_extra_left.Tie as tie
+
+pub with-extra-left-spec : {M : Type 1} → statement M
+with-extra-left-spec =
+    tie.close
+    (tie.spec
+    (λ c. search judging)  -- enum-told
+    (λ c. search judging)  -- enum-told-2
+    (λ c. search judging)  -- enum-told-3
+    (λ c. search judging)  -- enum-known-right
+    (λ c κs. search judging)  -- judge-extra-requires
+    (λ c. search judging)  -- returns
+    (λ c. search judging)  -- returns-2
+    (λ c. search judging)  -- returns-3
+    (λ c. search judging))  -- returns-4

@@ -1,0 +1,4 @@
+pub mod Found
+pub mod Judge
+pub mod Operator
+pub mod Value
