@@ -2,6 +2,7 @@
 use Prim.Native.Nat.{ℕ}
 use mathlib.Core.Bool.{Bool, true, cond, _&&_, _||_}
 use mathlib.Core.List.{List, [], _∷_}
+use mathlib.Core.Path.{_≡_}
 use lib.Dec.{ltb}
 use lib.ListN.{length}
 use Rattle.program.specs.Word.{word}
@@ -58,3 +59,10 @@ andThen lacksMeaning f = lacksMeaning
 unfoldable pub steps : (ℕ → Bool) → List ℕ → List Bool → State
 steps env [] st = stands st
 steps env (b ∷ s) st = andThen (obeyed env (word b) st) (steps env s)
+
+-- two states with as many values, or with the same lack
+pub data Alike : State → State → Type 0 where
+  values : (st us : List Bool) → length st ≡ length us → Alike (stands st) (stands us)
+  value : Alike lacksValue lacksValue
+  slot : Alike lacksSlot lacksSlot
+  meaning : Alike lacksMeaning lacksMeaning

@@ -1,5 +1,5 @@
 -- The stack rules, over the program and the count of comparisons.
-use Prim.Native.Nat.{ℕ, _+_, _-_, _≤_, _<_}
+use Prim.Native.Nat.{ℕ, _+_, _-_, _≤_, _<_, max}
 use mathlib.Core.Bool.{Bool, true, false, _&&_}
 use mathlib.Core.List.{List, [], _∷_}
 use mathlib.Core.Path.{_≡_}
@@ -31,6 +31,11 @@ after h Unknown = h
 unfoldable pub height : ℕ → List ℕ → ℕ
 height h [] = h
 height h (b ∷ s) = height (after h (word b)) s
+
+-- how many stood at once, at most
+unfoldable pub highest : ℕ → List ℕ → ℕ
+highest h [] = h
+highest h (b ∷ s) = max h (highest (after h (word b)) s)
 
 -- "A program passes for a count of at most 64 comparisons if it has 1 to 127 words, all known, each comparison number below the count; an
 -- operator finds at least two values; at most 35 stand at any time; one stands at the end."

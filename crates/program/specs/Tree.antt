@@ -1,7 +1,8 @@
 -- The tree of a program, and what it says.
-use Prim.Native.Nat.{ℕ, _+_, _<_, max}
+use Prim.Native.Nat.{ℕ, _+_, _≤_, _<_, max}
 use mathlib.Core.Bool.{Bool, true, _&&_, _||_}
 use mathlib.Core.List.{List, [], _∷_, _++_}
+use lib.ListN.{length}
 use Rattle.program.specs.Word.{word}
 use Rattle.program.specs.declared.word.Word.{Word}
 use Rattle.program.specs.declared.word.Word.the-variants.{Push, And, Or, Yes, Unknown}
@@ -46,6 +47,13 @@ slots (leaf k) = 1
 slots leafYes = 1
 slots (and a b) = max (slots a) (1 + slots b)
 slots (or a b) = max (slots a) (1 + slots b)
+
+-- a tree within the limits of document 01's rules
+pub record Within (t : Tree) (count : ℕ) : Type 0 where
+  pub few : count ≤ 64
+  pub below : Below count t
+  pub short : length (postfix t) ≤ 127
+  pub small : slots t ≤ 35
 
 -- "The tree: a push is a leaf, an operator joins the two latest trees, the older on the left." The latest stands first.
 abbrev pub joinTwo : (Tree → Tree → Tree) → List Tree → List Tree
