@@ -1,19 +1,18 @@
 -- Programs and trees: what `postfix` of a tree does to heights, trees and the machine, and that what keeps the rules is `postfix` of a tree.
 -- Assumes nothing.
-use mathlib.Core.Path.{_≡_, refl, sym, ap, ap₂, _∙_}
-use mathlib.Core.Bool.{Bool, true, false, cond, _&&_, _||_, false≢true}
+use mathlib.Core.Path.{_≡_, refl, sym, ap, _∙_}
+use mathlib.Core.Bool.{Bool, true, false, cond, false≢true}
 use mathlib.Core.List.{List, [], _∷_, _++_, append-assoc, append-nil}
-use Prim.Native.Nat.{ℕ, zero, suc, _+_, _-_, _≤_, _<_, max, zero-le}
+use Prim.Native.Nat.{ℕ, zero, suc, _+_, _-_, _≤_, _<_, max}
 use native.Mathlib.Omega.{arith}
 use borrow.Author.Tests.{lt-ltb, le-leb, ltb-true, leb-true, eqb-true}
-use lib.Dec.{ltb, leb, eqb}
+use lib.Dec.{ltb, eqb}
 use lib.ListN.{length, take, length-append}
 use Rattle.text.proofs.Cases.{both}
 use Rattle.text.specs.Scan.{byteAt}
-use Rattle.program.proofs.Steady.{Each}
-use Rattle.program.proofs.Words.{word-push, word-and, word-or, word-yes}
-use Rattle.program.specs.Machine.{State, stands, lacksValue, lacksSlot, lacksMeaning, pushed, operated, obeyed, andThen, steps}
-use Rattle.program.specs.Rules.{isOperator, after, height, highest, allowed}
+use Rattle.program.proofs.Words.{word-push}
+use Rattle.program.specs.Machine.{pushed, andThen, steps}
+use Rattle.program.specs.Rules.{after, height, highest, allowed}
 use Rattle.program.specs.Tree.{Tree, leaf, leafYes, and, or, postfix, value, Below, leaves, slots, joinTwo, grown, trees, latest, treeOf}
 use Rattle.program.specs.Word.{word}
 use Rattle.program.specs.declared.word.Word.{Word}

@@ -1,29 +1,23 @@
 -- What a program that passes means. Assumes nothing.
 use mathlib.Core.Path.{_≡_, refl, sym, ap, ap₂, _∙_}
-use mathlib.Core.Bool.{Bool, true, false, cond, _&&_, _||_, false≢true}
+use mathlib.Core.Bool.{Bool, true, _&&_, _||_, false≢true}
 use mathlib.Core.List.{List, [], _∷_, _++_, append-nil}
-use Prim.Native.Nat.{ℕ, zero, suc, _+_, _-_, _≤_, _<_, zero-le}
+use Prim.Native.Nat.{ℕ, _-_, _≤_, _<_}
 use native.Mathlib.Omega.{arith}
-use borrow.Author.Tests.{ltb-true, leb-true}
-use lib.Dec.{ltb, leb}
+use borrow.Author.Tests.{leb-true}
+use lib.Dec.{ltb}
 use lib.ListN.{length, take, drop, take-append-drop}
 use Rattle.text.proofs.Cases.{both}
 use Rattle.text.specs.Answer.{Answer, good, refused}
 use Rattle.text.specs.Check.{passes}
-use Rattle.text.specs.Refusal.{given}
-use Rattle.text.specs.declared.refusal.Refusal.{Refusal}
 use Rattle.program.proofs.Forest.{slots-some, Steady, each-steady, steady-each, steady-front, tree-height, tree-highest, tree-trees, tree-steps, tree-steady, steady-tree, one-tree}
 use Rattle.program.proofs.Steady.{Kept, passes-kept, kept-passes}
-use Rattle.program.proofs.Words.{words}
-use Rattle.program.specs.Check.{checkedProgram, told}
-use Rattle.program.specs.Machine.{State, stands, lacksValue, lacksSlot, lacksMeaning, pushed, operated, obeyed, andThen, steps, Alike, values, slot, meaning}
-use Rattle.program.specs.Machine as Machine
+use Rattle.program.specs.Check.{checkedProgram}
+use Rattle.program.specs.Machine.{stands, operated, obeyed, steps}
 use Rattle.program.specs.Rules.{after, height, highest, allowed}
 use Rattle.program.specs.Run.{bit, following, ran}
 use Rattle.program.specs.Tree.{Tree, leaf, leafYes, and, or, postfix, value, Below, slots, Within, trees, treeOf}
 use Rattle.program.specs.Word.{word}
-use Rattle.program.specs.declared.rules.Passed.{Passed}
-use Rattle.program.specs.declared.rules.Passed.the-variants as Passed
 use Rattle.program.specs.declared.word.Word.{Word}
 use Rattle.program.specs.declared.word.Word.the-variants.{Push, And, Or, Yes, Unknown}
 
@@ -109,43 +103,6 @@ module _ (s : List ℕ) (count : ℕ) (h : checkedProgram s count ≡ passes) wh
   pub passes-stands : (env : ℕ → Bool) (i : ℕ) → (st : List Bool) × (steps env (take i s) [] ≡ stands st) × (length st ≡ height 0 (take i s))
   passes-stands env i = steady-stands count env (take i s) [] (steady-front count (take i s) (drop i s) 0 (rw take-append-drop steady))
 
--- the height does not depend on the assignment, whatever the program
-alike-then : (x y : State) (f g : List Bool → State) → Alike x y → ((st us : List Bool) → length st ≡ length us → Alike (f st) (g us)) → Alike (andThen x f) (andThen y g)
-alike-then x y f g (values st us e) h = h st us e
-alike-then x y f g Machine.value h = Machine.value
-alike-then x y f g slot h = slot
-alike-then x y f g meaning h = meaning
-
-module _ (env var : ℕ → Bool) where
-  push-alike : (v u : Bool) (st us : List Bool) → length st ≡ length us → Alike (pushed v st) (pushed u us)
-  push-alike v u st us e = rw (← e) (go (ltb (length st) 35))
-    where
-      go : (t : Bool) → Alike (cond t (stands (v ∷ st)) lacksSlot) (cond t (stands (u ∷ us)) lacksSlot)
-      go true = values (v ∷ st) (u ∷ us) (omega arith)
-      go false = slot
-
-  operate-alike : (f : Bool → Bool → Bool) (st us : List Bool) → length st ≡ length us → Alike (operated f st) (operated f us)
-  operate-alike f [] [] e = Machine.value
-  operate-alike f [] (u ∷ us) e = absurd (omega arith)
-  operate-alike f (v ∷ []) [] e = absurd (omega arith)
-  operate-alike f (v ∷ []) (u ∷ []) e = Machine.value
-  operate-alike f (v ∷ []) (u ∷ (x ∷ us)) e = absurd (omega arith)
-  operate-alike f (v ∷ (y ∷ st)) [] e = absurd (omega arith)
-  operate-alike f (v ∷ (y ∷ st)) (u ∷ []) e = absurd (omega arith)
-  operate-alike f (v ∷ (y ∷ st)) (u ∷ (x ∷ us)) e = values (f y v ∷ st) (f x u ∷ us) (omega arith)
-
-  obey-alike : (w : Word) (st us : List Bool) → length st ≡ length us → Alike (obeyed env w st) (obeyed var w us)
-  obey-alike (Push k) st us e = push-alike (env (k .0)) (var (k .0)) st us e
-  obey-alike And st us e = operate-alike _&&_ st us e
-  obey-alike Or st us e = operate-alike _||_ st us e
-  obey-alike Yes st us e = push-alike true true st us e
-  obey-alike Unknown st us e = meaning
-
-  pub steps-alike : (s : List ℕ) (st us : List Bool) → length st ≡ length us → Alike (steps env s st) (steps var s us)
-  unfolding steps
-  steps-alike [] st us e = values st us e
-  steps-alike (b ∷ s) st us e = alike-then (obeyed env (word b) st) (obeyed var (word b) us) (steps env s) (steps var s) (obey-alike (word b) st us e) (steps-alike s)
-
 -- comparisons at or above the count have no effect on a tree's value
 pub value-below : (t : Tree) (count : ℕ) (env var : ℕ → Bool) → Below count t → ((k : ℕ) → k < count → env k ≡ var k) → value env t ≡ value var t
 unfolding value Below
@@ -170,16 +127,12 @@ ran-below s count a b same = go (checkedProgram s count) refl
     go (good x) e = ap good (value-below (treeOf s) count (bit a) (bit b) (passes-within s count e .below) same)
     go (refused n at l) e = refl
 
--- the runner, from what the check answered
-module _ (s : List ℕ) (count assignment : ℕ) (k : Passed) (made : told k ≡ checkedProgram s count) where
-  pub run-good : k ≡ Passed.Good → steps (bit assignment) s [] ≡ stands (value (bit assignment) (treeOf s) ∷ [])
-  run-good e = passes-runs s count (sym made ∙ ap told e) (bit assignment)
-
-  pub run-answer : (v : Bool) → k ≡ Passed.Good → v ≡ value (bit assignment) (treeOf s) → good v ≡ ran s count assignment
-  run-answer v e f = rw (← made, e, f)
-
-  pub run-refused : (why : Refusal) → k ≡ Passed.Refused why → given why ≡ ran s count assignment
-  unfolding given
-  run-refused why e = rw (← made, e)
-
-pub ruleset ran-laws = (run-good, run-answer, run-refused, words)
+-- document 01's "exactly if", in both directions: what passes is `postfix` of exactly one tree with its numbers below the count, which is within the
+-- limits; and the program of every tree within the limits passes
+pub exactly : (s : List ℕ) (count : ℕ) →
+    (checkedProgram s count ≡ passes → (t : Tree) × (Within t count) × (postfix t ≡ s) × ((u : Tree) → Below count u → postfix u ≡ s → u ≡ t))
+    × ((t : Tree) → Within t count → postfix t ≡ s → checkedProgram s count ≡ passes)
+exactly s count = (
+  (λ h. (treeOf s, passes-within s count h, passes-postfix s count h, passes-one s count h)),
+  (λ t w e. rw (← e) (within-passes t count w)),
+)

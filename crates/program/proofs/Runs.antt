@@ -11,7 +11,7 @@ use lib.ListN.{length, drop, getD, set, drop-of-length-le, length-set}
 use lib.Seq.{drop-cons, getD-set-same, getD-set-other}
 use Rattle.text.specs.Scan.{byteAt}
 use Rattle.program.proofs.Words.{words}
-use Rattle.program.specs.Machine.{State, stands, lacksValue, lacksSlot, lacksMeaning, pushed, operated, joins, says, obeyed, andThen, steps}
+use Rattle.program.specs.Machine.{State, stands, lacksSlot, pushed, operated, joins, says, obeyed, andThen, steps}
 use Rattle.program.specs.Rules.{isOperator}
 use Rattle.program.specs.Word.{word}
 use Rattle.program.specs.declared.word.Word.{Word}

@@ -1,19 +1,18 @@
 -- The check passes exactly what document 01's stack rules allow. Assumes nothing.
-use mathlib.Core.Path.{_≡_, refl, sym, ap, _∙_}
-use mathlib.Core.Bool.{Bool, true, false, cond, _&&_, false≢true}
-use mathlib.Core.List.{List, [], _∷_, _++_}
-use Prim.Native.Nat.{ℕ, zero, suc, _+_, _-_, _≤_, _<_, zero-le}
+use mathlib.Core.Path.{_≡_, refl, sym, _∙_}
+use mathlib.Core.Bool.{Bool, true, false, cond, false≢true}
+use mathlib.Core.List.{List, [], _∷_}
+use Prim.Native.Nat.{ℕ, zero, suc, _+_, _≤_, _<_, zero-le}
 use native.Mathlib.Nat.{zero-add}
 use native.Mathlib.Numerals.{add-one}
 use native.Mathlib.Omega.{arith}
-use borrow.Author.Tests.{lt-ltb, le-ltb, le-leb, eq-eqb, ltb-true, ltb-false, leb-true, eqb-true}
-use lib.Dec.{ltb, leb, eqb}
-use lib.ListN.{length, take, getD}
-use lib.Seq.{take-length}
+use borrow.Author.Tests.{lt-ltb, le-ltb, le-leb, ltb-true, ltb-false, leb-true, eqb-true}
+use lib.Dec.{ltb, eqb}
+use lib.ListN.{length, take}
 use Rattle.text.proofs.Cases.{both}
 use Rattle.text.proofs.Laws.{skip-start}
 use Rattle.text.proofs.Reach.{skip-in, skip-is}
-use Rattle.text.specs.Answer.{Answer, refused}
+use Rattle.text.specs.Answer.{refused}
 use Rattle.text.specs.Check.{passes}
 use Rattle.text.specs.Scan.{byteAt}
 use Rattle.text.specs.declared.refusal.ComparisonNumber.{ComparisonNumber}

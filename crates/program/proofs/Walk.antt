@@ -1,8 +1,8 @@
 -- The laws of heights and of the first fault, which answer the check's loop. Assumes nothing.
-use mathlib.Core.Path.{_≡_, refl, sym, ap, _∙_}
+use mathlib.Core.Path.{_≡_, refl, ap, _∙_}
 use mathlib.Core.Bool.{Bool, true, false}
 use mathlib.Core.List.{List, [], _∷_, _++_}
-use Prim.Native.Nat.{ℕ, zero, suc, _+_, _-_, _≤_, _<_, zero-le}
+use Prim.Native.Nat.{ℕ, zero, suc, _+_, _≤_, _<_, zero-le}
 use native.Mathlib.Nat.{zero-add}
 use native.Mathlib.Numerals.{add-one}
 use native.Mathlib.Omega.{arith}
@@ -13,7 +13,7 @@ use Rattle.text.proofs.Laws.{skip-start, turn, stopped, ended, given-is}
 use Rattle.text.proofs.Reach.{run-le}
 use Rattle.text.specs.Check.{passes}
 use Rattle.text.specs.Refusal.{refusal, given}
-use Rattle.text.specs.Scan.{run, skip, byteAt}
+use Rattle.text.specs.Scan.{skip, byteAt}
 use Rattle.text.specs.declared.refusal.Fault.the-variants.{ProgramBad}
 use Rattle.text.specs.declared.refusal.Refusal.{Refusal}
 use Rattle.program.proofs.Words.{words}

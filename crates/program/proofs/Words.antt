@@ -1,22 +1,17 @@
 -- The laws of words, which answer the functions over one word. Assumes nothing.
-use mathlib.Core.Path.{_≡_, refl, sym, ap, _∙_}
-use mathlib.Core.Bool.{Bool, true, false, _&&_, false≢true}
-use mathlib.Core.List.{List, [], _∷_, _++_}
-use Prim.Native.Nat.{ℕ, zero, suc, _+_, _-_, _^_, _≤_, _<_}
+use mathlib.Core.Path.{_≡_}
+use mathlib.Core.Bool.{Bool, true, false}
+use Prim.Native.Nat.{ℕ, _^_, _≤_, _<_}
 use native.Mathlib.Nat.{div-eq-of-lt, lt-of-lt-of-le}
-use native.Mathlib.Numerals.{add-one}
 use native.Mathlib.Omega.{arith}
 use borrow.Author.Tests.{lt-ltb, le-ltb, ne-eqb, ltb-true, leb-true}
-use lib.Dec.{ltb, leb}
-use lib.ListN.{length, take, drop, getD}
+use lib.Dec.{ltb}
 use lib.Pow.{pow-mono}
-use lib.Seq.{take-suc}
-use Rattle.text.proofs.Cases.{cases, both}
+use Rattle.text.proofs.Cases.{both}
 use Rattle.text.proofs.Laws.{scan}
-use Rattle.text.specs.Scan.{byteAt}
 use Rattle.text.specs.declared.refusal.ComparisonNumber.{ComparisonNumber}
 use Rattle.program.specs.Machine.{joins, says}
-use Rattle.program.specs.Rules.{isOperator, after, height, allowed, sound}
+use Rattle.program.specs.Rules.{isOperator, after, allowed, sound}
 use Rattle.program.specs.Run.{bit}
 use Rattle.program.specs.Word.{word}
 use Rattle.program.specs.declared.word.Word.{Word}

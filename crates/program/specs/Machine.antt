@@ -62,7 +62,7 @@ steps env (b ∷ s) st = andThen (obeyed env (word b) st) (steps env s)
 
 -- two states with as many values, or with the same lack
 pub data Alike : State → State → Type 0 where
-  values : (st us : List Bool) → length st ≡ length us → Alike (stands st) (stands us)
-  value : Alike lacksValue lacksValue
-  slot : Alike lacksSlot lacksSlot
-  meaning : Alike lacksMeaning lacksMeaning
+  standing : (st us : List Bool) → length st ≡ length us → Alike (stands st) (stands us)
+  noValue : Alike lacksValue lacksValue
+  noSlot : Alike lacksSlot lacksSlot
+  noMeaning : Alike lacksMeaning lacksMeaning
