@@ -2,7 +2,7 @@ use Prim.Native.Nat.{_-_}
 use lib.ListN.{length}
 use Rattle.program.specs.Run.{bit}
 use Rattle.program.specs.Tree.{value, treeOf}
-use Rattle.program.proofs.Runs.{Running, runs}
+use Rattle.program.proofs.Runs.{Running, operator-turn, runs}
 use Rattle.program.proofs.machine.obey.Statement.{statement}
 use Rattle.program.proofs.machine.obey.Tie as tie
 
@@ -26,7 +26,7 @@ obey-spec =
     (λ c. search runs)  -- sub-top
     (λ c. search runs)  -- add-at
     (λ c. search runs)  -- loop-less
-    (λ c. search runs)  -- loop-again
+    (λ c. operator-turn _ _ _ _ _ _ (c .before .before .before .before .before .before .loop .inv) _ _ (c .before .before .before .before .before .loop-test .taken) (c .before .before .before .word-of .ensures) (c .before .before .is-operator .ensures) _ (c .before .if1 .taken) (c .join .ensures))  -- loop-again
     (λ c κs. search runs)  -- push-requires
     (λ c. search runs)  -- array-write-slots-2
     (λ c. search runs)  -- add-top
