@@ -10,7 +10,7 @@ use Rattle.text.specs.Scan.{run}
 use Rattle.program.specs.Check.{faultAt, checkedProgram}
 use Rattle.program.specs.Rules.{height}
 use Rattle.program.specs.Run.{bit, ran}
-use Rattle.program.specs.Tree.{Tree, leaf, leafYes, and, or, postfix, value, trees, treeOf}
+use Rattle.program.specs.Tree.{Tree, leaf, leafYes, and, or, postfix, fold, trees, treeOf}
 use Rattle.program.specs.Word.{word}
 
 -- yes, and n times yes with `and`: 1 + 2 n words on two slots
@@ -106,5 +106,5 @@ pub holds : (map (λ e. checkedProgram (e .0) (e .1)) checks ≡ map (λ e. e .2
     × (map (λ e. ran (e .0) (e .1) (e .2)) runs ≡ map (λ e. e .3) runs)
     × (map (λ e. treeOf (e .0)) shapes ≡ map (λ e. e .1) shapes)
     × (map (λ e. postfix (e .1)) shapes ≡ map (λ e. e .0) shapes)
-unfolding faultAt height word run bit trees treeOf value postfix
+unfolding faultAt height word run bit trees treeOf fold postfix
 holds = (refl, refl, refl, refl)

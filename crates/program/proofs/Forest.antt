@@ -13,7 +13,7 @@ use Rattle.text.specs.Scan.{byteAt}
 use Rattle.program.proofs.Words.{word-push}
 use Rattle.program.specs.Machine.{pushed, andThen, steps}
 use Rattle.program.specs.Rules.{after, height, highest, allowed}
-use Rattle.program.specs.Tree.{Tree, leaf, leafYes, and, or, postfix, value, Below, leaves, slots, joinTwo, grown, trees, latest, treeOf}
+use Rattle.program.specs.Tree.{Tree, leaf, leafYes, and, or, postfix, Reading, fold, Below, leaves, slots, joinTwo, grown, trees, latest, treeOf}
 use Rattle.program.specs.Word.{word}
 use Rattle.program.specs.declared.word.Word.{Word}
 use Rattle.program.specs.declared.word.Word.the-variants.{Push, And, Or, Yes, Unknown}
@@ -97,17 +97,17 @@ module _ (count : ℕ) (few : count ≤ 64) where
   tree-trees (and x y) ts rest b = simp append-assoc (tree-trees x ts _ (b .0) ∙ tree-trees y (x ∷ ts) _ (b .1))
   tree-trees (or x y) ts rest b = simp append-assoc (tree-trees x ts _ (b .0) ∙ tree-trees y (x ∷ ts) _ (b .1))
 
-  -- the machine: its value is pushed on any values that leave it room
-  module _ (env : ℕ → Bool) where
-    push-on : (v : Bool) (st : List Bool) (rest : List ℕ) → length st < 35 → andThen (pushed v st) (steps env rest) ≡ steps env rest (v ∷ st)
+  -- the machine: what is made of the tree is pushed on any values that leave it room
+  module _ {A : Type 0} (m : Reading A) where
+    push-on : (v : A) (st : List A) (rest : List ℕ) → length st < 35 → andThen (pushed v st) (steps m rest) ≡ steps m rest (v ∷ st)
     push-on v st rest l = rw (lt-ltb (length st) 35)
 
-    pub tree-steps : (t : Tree) (st : List Bool) (rest : List ℕ) → Below count t → length st + slots t ≤ 35 → steps env (postfix t ++ rest) st ≡ steps env rest (value env t ∷ st)
-    unfolding postfix Below slots value steps word
-    tree-steps (leaf k) st rest b l = rw (lt-ltb k 64 (omega arith)) (push-on (env k) st rest (omega arith))
-    tree-steps leafYes st rest b l = push-on true st rest (omega arith)
-    tree-steps (and x y) st rest b l = simp append-assoc (tree-steps x st _ (b .0) (omega arith) ∙ tree-steps y (value env x ∷ st) _ (b .1) (omega arith))
-    tree-steps (or x y) st rest b l = simp append-assoc (tree-steps x st _ (b .0) (omega arith) ∙ tree-steps y (value env x ∷ st) _ (b .1) (omega arith))
+    pub tree-steps : (t : Tree) (st : List A) (rest : List ℕ) → Below count t → length st + slots t ≤ 35 → steps m (postfix t ++ rest) st ≡ steps m rest (fold m t ∷ st)
+    unfolding postfix Below slots fold steps word
+    tree-steps (leaf k) st rest b l = rw (lt-ltb k 64 (omega arith)) (push-on (m .number k) st rest (omega arith))
+    tree-steps leafYes st rest b l = push-on (m .yes) st rest (omega arith)
+    tree-steps (and x y) st rest b l = simp append-assoc (tree-steps x st _ (b .0) (omega arith) ∙ tree-steps y (fold m x ∷ st) _ (b .1) (omega arith))
+    tree-steps (or x y) st rest b l = simp append-assoc (tree-steps x st _ (b .0) (omega arith) ∙ tree-steps y (fold m x ∷ st) _ (b .1) (omega arith))
 
   -- the rules: they are kept exactly if the slots suffice
   pub tree-steady : (t : Tree) (h : ℕ) (rest : List ℕ) → Below count t → h + slots t ≤ 35 → Steady count (h + 1) rest → Steady count h (postfix t ++ rest)

@@ -1,6 +1,6 @@
 -- What a program that passes means. Assumes nothing.
 use mathlib.Core.Path.{_≡_, refl, sym, ap, ap₂, _∙_}
-use mathlib.Core.Bool.{Bool, true, _&&_, _||_, false≢true}
+use mathlib.Core.Bool.{Bool, true, false≢true}
 use mathlib.Core.List.{List, [], _∷_, _++_, append-nil}
 use Prim.Native.Nat.{ℕ, _-_, _≤_, _<_}
 use native.Mathlib.Omega.{arith}
@@ -16,7 +16,7 @@ use Rattle.program.specs.Check.{checkedProgram}
 use Rattle.program.specs.Machine.{stands, operated, obeyed, steps}
 use Rattle.program.specs.Rules.{after, height, highest, allowed}
 use Rattle.program.specs.Run.{bit, following, ran}
-use Rattle.program.specs.Tree.{Tree, leaf, leafYes, and, or, postfix, value, Below, slots, Within, trees, treeOf}
+use Rattle.program.specs.Tree.{Tree, leaf, leafYes, and, or, postfix, Reading, fold, saying, value, Below, slots, Within, trees, treeOf}
 use Rattle.program.specs.Word.{word}
 use Rattle.program.specs.declared.word.Word.{Word}
 use Rattle.program.specs.declared.word.Word.the-variants.{Push, And, Or, Yes, Unknown}
@@ -45,21 +45,21 @@ within-passes t count w = kept-passes (postfix t) count (record {
   one = rw (← append-nil (postfix t), tree-height count (w .few) t 0 [] (w .below));
 })
 
-two : (f : Bool → Bool → Bool) (st : List Bool) → 2 ≤ length st → (us : List Bool) × (operated f st ≡ stands us) × (length us ≡ length st - 1)
-two f [] l = absurd (omega arith)
-two f (y ∷ []) l = absurd (omega arith)
-two f (y ∷ (x ∷ st)) l = (f x y ∷ st, refl, omega arith)
-
 -- where each word may come, the machine lacks nothing
-module _ (count : ℕ) (env : ℕ → Bool) where
-  obeyed-stands : (w : Word) (st : List Bool) → allowed count (length st) w ≡ true → (us : List Bool) × (obeyed env w st ≡ stands us) × (length us ≡ after (length st) w)
-  obeyed-stands (Push k) st a = let r = both (ltb (k .0) count) (ltb (length st) 35) a .1 in (env (k .0) ∷ st, rw r, omega arith)
-  obeyed-stands And st a = two _&&_ st (leb-true 2 (length st) a)
-  obeyed-stands Or st a = two _||_ st (leb-true 2 (length st) a)
-  obeyed-stands Yes st a = (true ∷ st, rw a, omega arith)
+module _ {A : Type 0} (count : ℕ) (m : Reading A) where
+  two : (f : A → A → A) (st : List A) → 2 ≤ length st → (us : List A) × (operated f st ≡ stands us) × (length us ≡ length st - 1)
+  two f [] l = absurd (omega arith)
+  two f (y ∷ []) l = absurd (omega arith)
+  two f (y ∷ (x ∷ st)) l = (f x y ∷ st, refl, omega arith)
+
+  obeyed-stands : (w : Word) (st : List A) → allowed count (length st) w ≡ true → (us : List A) × (obeyed m w st ≡ stands us) × (length us ≡ after (length st) w)
+  obeyed-stands (Push k) st a = let r = both (ltb (k .0) count) (ltb (length st) 35) a .1 in (m .number (k .0) ∷ st, rw r, omega arith)
+  obeyed-stands And st a = two (m .both) st (leb-true 2 (length st) a)
+  obeyed-stands Or st a = two (m .either) st (leb-true 2 (length st) a)
+  obeyed-stands Yes st a = (m .yes ∷ st, rw a, omega arith)
   obeyed-stands Unknown st a = absurd (false≢true a)
 
-  steady-stands : (s : List ℕ) (st : List Bool) → Steady count (length st) s → (us : List Bool) × (steps env s st ≡ stands us) × (length us ≡ height (length st) s)
+  steady-stands : (s : List ℕ) (st : List A) → Steady count (length st) s → (us : List A) × (steps m s st ≡ stands us) × (length us ≡ height (length st) s)
   unfolding steps height
   steady-stands [] st ok = (st, refl, refl)
   steady-stands (b ∷ s) st ok =
@@ -91,40 +91,41 @@ module _ (s : List ℕ) (count : ℕ) (h : checkedProgram s count ≡ passes) wh
   pub passes-one : (t : Tree) → Below count t → postfix t ≡ s → t ≡ treeOf s
   passes-one t b e = sym (tree-own t count (kept .few) b) ∙ ap treeOf e
 
-  -- the machine ends with one value, the tree's, under any assignment
-  pub passes-runs : (env : ℕ → Bool) → steps env s [] ≡ stands (value env (treeOf s) ∷ [])
-  unfolding steps
-  passes-runs env =
-      let w = passes-within in
-      let p : postfix (treeOf s) ++ [] ≡ s = append-nil (postfix (treeOf s)) ∙ passes-postfix in
-      rw p at (tree-steps count (w .few) env (treeOf s) [] [] (w .below) (omega (arith, w .small)))
+  module _ {A : Type 0} (m : Reading A) where
+    -- the machine ends with one value, what is made of the tree: for `saying env`, what the tree says under the assignment
+    pub passes-runs : steps m s [] ≡ stands (fold m (treeOf s) ∷ [])
+    unfolding steps
+    passes-runs =
+        let w = passes-within in
+        let p : postfix (treeOf s) ++ [] ≡ s = append-nil (postfix (treeOf s)) ∙ passes-postfix in
+        rw p at (tree-steps count (w .few) m (treeOf s) [] [] (w .below) (omega (arith, w .small)))
 
-  -- at every step it lacks neither value nor slot, and as many values stand as the rules count, whatever the assignment
-  pub passes-stands : (env : ℕ → Bool) (i : ℕ) → (st : List Bool) × (steps env (take i s) [] ≡ stands st) × (length st ≡ height 0 (take i s))
-  passes-stands env i = steady-stands count env (take i s) [] (steady-front count (take i s) (drop i s) 0 (rw take-append-drop steady))
+    -- at every step it lacks neither value nor slot, and as many values stand as the rules count, whatever the assignment
+    pub passes-stands : (i : ℕ) → (st : List A) × (steps m (take i s) [] ≡ stands st) × (length st ≡ height 0 (take i s))
+    passes-stands i = steady-stands count m (take i s) [] (steady-front count (take i s) (drop i s) 0 (rw take-append-drop steady))
 
--- comparisons at or above the count have no effect on a tree's value
-pub value-below : (t : Tree) (count : ℕ) (env var : ℕ → Bool) → Below count t → ((k : ℕ) → k < count → env k ≡ var k) → value env t ≡ value var t
-unfolding value Below
-value-below (leaf k) count env var b same = same k b
-value-below leafYes count env var b same = refl
-value-below (and x y) count env var b same = ap₂ _&&_ (value-below x count env var (b .0) same) (value-below y count env var (b .1) same)
-value-below (or x y) count env var b same = ap₂ _||_ (value-below x count env var (b .0) same) (value-below y count env var (b .1) same)
+-- comparisons at or above the count have no effect on what is made of a tree
+pub fold-below : {A : Type 0} (t : Tree) (count : ℕ) (m : Reading A) (f : ℕ → A) → Below count t → ((k : ℕ) → k < count → m .number k ≡ f k) → fold m t ≡ fold (record { number = f; yes = m .yes; both = m .both; either = m .either }) t
+unfolding fold Below
+fold-below (leaf k) count m f b same = same k b
+fold-below leafYes count m f b same = refl
+fold-below (and x y) count m f b same = ap₂ (m .both) (fold-below x count m f (b .0) same) (fold-below y count m f (b .1) same)
+fold-below (or x y) count m f b same = ap₂ (m .either) (fold-below x count m f (b .0) same) (fold-below y count m f (b .1) same)
 
 -- the runner's answer for a tree's program is the tree's value
 pub within-ran : (t : Tree) (count assignment : ℕ) → Within t count → ran (postfix t) count assignment ≡ good (value (bit assignment) t)
 within-ran t count assignment w = rw (within-passes t count w, tree-own t count (w .few) (w .below))
 
 -- and the one value that the machine ends with
-pub passes-ran : (s : List ℕ) (count assignment : ℕ) (v : Bool) → checkedProgram s count ≡ passes → steps (bit assignment) s [] ≡ stands (v ∷ []) → ran s count assignment ≡ good v
-passes-ran s count assignment v h e = let p = passes-runs s count h (bit assignment) in rw h (ap good (cc))
+pub passes-ran : (s : List ℕ) (count assignment : ℕ) (v : Bool) → checkedProgram s count ≡ passes → steps (saying (bit assignment)) s [] ≡ stands (v ∷ []) → ran s count assignment ≡ good v
+passes-ran s count assignment v h e = let p = passes-runs s count h (saying (bit assignment)) in rw h (ap good (cc))
 
 -- "bits at or above the count have no effect"
 pub ran-below : (s : List ℕ) (count a b : ℕ) → ((k : ℕ) → k < count → bit a k ≡ bit b k) → ran s count a ≡ ran s count b
 ran-below s count a b same = go (checkedProgram s count) refl
   where
     go : (z : Answer (Unit {0})) → checkedProgram s count ≡ z → following z (value (bit a) (treeOf s)) ≡ following z (value (bit b) (treeOf s))
-    go (good x) e = ap good (value-below (treeOf s) count (bit a) (bit b) (passes-within s count e .below) same)
+    go (good x) e = ap good (fold-below (treeOf s) count (saying (bit a)) (bit b) (passes-within s count e .below) same)
     go (refused n at l) e = refl
 
 -- document 01's "exactly if", in both directions: what passes is `postfix` of exactly one tree with its numbers below the count, which is within the

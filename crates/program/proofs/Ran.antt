@@ -10,14 +10,14 @@ use Rattle.program.proofs.Words.{words}
 use Rattle.program.specs.Check.{checkedProgram, told}
 use Rattle.program.specs.Machine.{stands, steps}
 use Rattle.program.specs.Run.{bit, ran}
-use Rattle.program.specs.Tree.{value, treeOf}
+use Rattle.program.specs.Tree.{saying, value, treeOf}
 use Rattle.program.specs.declared.rules.Passed.{Passed}
 use Rattle.program.specs.declared.rules.Passed.the-variants as Passed
 use Rattle.program.proofs.Meaning.{passes-runs}
 
 module _ (s : List ℕ) (count assignment : ℕ) (k : Passed) (made : told k ≡ checkedProgram s count) where
-  pub run-good : k ≡ Passed.Good → steps (bit assignment) s [] ≡ stands (value (bit assignment) (treeOf s) ∷ [])
-  run-good e = passes-runs s count (sym made ∙ ap told e) (bit assignment)
+  pub run-good : k ≡ Passed.Good → steps (saying (bit assignment)) s [] ≡ stands (value (bit assignment) (treeOf s) ∷ [])
+  run-good e = passes-runs s count (sym made ∙ ap told e) (saying (bit assignment))
 
   pub run-answer : (v : Bool) → k ≡ Passed.Good → v ≡ value (bit assignment) (treeOf s) → good v ≡ ran s count assignment
   run-answer v e f = rw (← made, e, f)

@@ -13,6 +13,7 @@ use Rattle.text.specs.declared.refusal.ComparisonNumber.{ComparisonNumber}
 use Rattle.program.specs.Machine.{joins, says}
 use Rattle.program.specs.Rules.{isOperator, after, allowed, sound}
 use Rattle.program.specs.Run.{bit}
+use Rattle.program.specs.Tree.{Reading}
 use Rattle.program.specs.Word.{word}
 use Rattle.program.specs.declared.word.Word.{Word}
 use Rattle.program.specs.declared.word.Word.the-variants.{Push, And, Or, Yes, Unknown}
@@ -50,11 +51,11 @@ module _ (w v : Word) (e : w ≡ v) where
   pub operator-at : (r : Bool) → r ≡ isOperator v → r ≡ isOperator w
   operator-at r f = rw e f
 
-  pub joins-at : (x y r : Bool) → r ≡ joins v x y → r ≡ joins w x y
-  joins-at x y r f = rw e f
+  pub joins-at : {A : Type 0} (f g : A → A → A) (x y r : A) → r ≡ joins f g v x y → r ≡ joins f g w x y
+  joins-at f g x y r h = rw e h
 
-  pub says-at : (env : ℕ → Bool) (r : Bool) → r ≡ says env v → r ≡ says env w
-  says-at env r f = rw e f
+  pub says-at : {A : Type 0} (m : Reading A) (r : A) → r ≡ says m v → r ≡ says m w
+  says-at m r h = rw e h
 
 -- a push that is not at fault finds room, an operator finds two values
 module _ (count at h : ℕ) (w : Word) (good : sound count at h w ≡ true) where

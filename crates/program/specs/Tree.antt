@@ -20,12 +20,25 @@ postfix leafYes = 66 ∷ []
 postfix (and a b) = postfix a ++ (postfix b ++ (64 ∷ []))
 postfix (or a b) = postfix a ++ (postfix b ++ (65 ∷ []))
 
+-- what may be made of a tree, from its leaves up: yes and no here, other values for whoever asks something else of the same trees
+pub record Reading (A : Type 0) : Type 0 where
+  pub number : ℕ → A
+  pub yes : A
+  pub both : A → A → A
+  pub either : A → A → A
+
+unfoldable pub fold : {A : Type 0} → Reading A → Tree → A
+fold m (leaf k) = m .number k
+fold m leafYes = m .yes
+fold m (and a b) = m .both (fold m a) (fold m b)
+fold m (or a b) = m .either (fold m a) (fold m b)
+
 -- what a tree says, where comparison k is `env k`
-unfoldable pub value : (ℕ → Bool) → Tree → Bool
-value env (leaf k) = env k
-value env leafYes = true
-value env (and a b) = value env a && value env b
-value env (or a b) = value env a || value env b
+abbrev pub saying : (ℕ → Bool) → Reading Bool
+saying env = record { number = env; yes = true; both = _&&_; either = _||_ }
+
+abbrev pub value : (ℕ → Bool) → Tree → Bool
+value env t = fold (saying env) t
 
 -- "each comparison number below the count"
 unfoldable pub Below : ℕ → Tree → Type 0

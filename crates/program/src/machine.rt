@@ -1,10 +1,11 @@
 // Running a program: the check, then one pass over the words with 35 slots.
 ghost use mathlib.Core.Path.{_≡_};
+ghost use mathlib.Core.Bool.{_&&_, _||_};
 ghost use mathlib.Core.List.{[], _∷_};
 ghost use Rattle.program.specs.Machine.{stands, steps, joins, says};
 ghost use Rattle.program.specs.Rules.{isOperator};
 ghost use Rattle.program.specs.Run.{bit, ran, told};
-ghost use Rattle.program.specs.Tree.{treeOf, value};
+ghost use Rattle.program.specs.Tree.{saying, treeOf, value};
 use crate::rules::Passed;
 use crate::rules::check;
 use crate::word::Word;
@@ -42,7 +43,7 @@ fn is_operator(w: Word) -> bool
 
 // What an operator makes of two values.
 fn join(w: Word, older: bool, latest: bool) -> bool
-    ensures { λ r. ⌜ r ≡ joins w older latest ⌝ }
+    ensures { λ r. ⌜ r ≡ joins _&&_ _||_ w older latest ⌝ }
 {
     match w {
         Word::Push(_) => older,
@@ -55,7 +56,7 @@ fn join(w: Word, older: bool, latest: bool) -> bool
 
 // What a word that is no operator pushes.
 fn push(w: Word, assignment: u64) -> bool
-    ensures { λ r. ⌜ r ≡ says (bit assignment) w ⌝ }
+    ensures { λ r. ⌜ r ≡ says (saying (bit assignment)) w ⌝ }
 {
     match w {
         Word::Push(k) => bit_of(assignment, k),
@@ -68,7 +69,7 @@ fn push(w: Word, assignment: u64) -> bool
 
 // The one value that stands at the end, of a program that passed.
 fn obey(program: &[u8], assignment: u64) -> bool
-    requires { ⌜ steps (bit assignment) (now program) [] ≡ stands (value (bit assignment) (treeOf (now program)) ∷ []) ⌝ }
+    requires { ⌜ steps (saying (bit assignment)) (now program) [] ≡ stands (value (bit assignment) (treeOf (now program)) ∷ []) ⌝ }
     ensures { λ r. ⌜ r ≡ value (bit assignment) (treeOf (now (program .entry))) ⌝ }
 {
     let mut slots = [false; 35];
