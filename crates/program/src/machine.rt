@@ -6,6 +6,7 @@ ghost use Rattle.program.specs.Machine.{stands, steps, joins, says};
 ghost use Rattle.program.specs.Rules.{isOperator};
 ghost use Rattle.program.specs.Run.{bit, ran, told};
 ghost use Rattle.program.specs.Tree.{saying, treeOf, value};
+use crate::rules::MAX_SLOTS;
 use crate::rules::Passed;
 use crate::rules::check;
 use crate::word::Word;
@@ -72,7 +73,7 @@ fn obey(program: &[u8], assignment: u64) -> bool
     requires { ⌜ steps (saying (bit assignment)) (now program) [] ≡ stands (value (bit assignment) (treeOf (now program)) ∷ []) ⌝ }
     ensures { λ r. ⌜ r ≡ value (bit assignment) (treeOf (now (program .entry))) ⌝ }
 {
-    let mut slots = [false; 35];
+    let mut slots = [false; MAX_SLOTS];
     let mut top: usize = 0;
     let mut at: usize = 0;
     while at < program.len() {

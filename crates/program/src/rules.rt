@@ -12,6 +12,12 @@ use text::Cursor;
 use text::Fault;
 use text::Refusal;
 
+// Words of a program.
+const MAX_WORDS: usize = 127;
+
+// Values that stand at one time.
+pub const MAX_SLOTS: usize = 35;
+
 pub enum Passed {
     Good,
     Refused(Refusal),
@@ -34,10 +40,10 @@ fn may_come(w: Word, count: usize, height: usize) -> bool
     ensures { λ r. ⌜ r ≡ allowed count height w ⌝ }
 {
     match w {
-        Word::Push(k) => is_below(k, count) & (height < 35),
+        Word::Push(k) => is_below(k, count) & (height < MAX_SLOTS),
         Word::And => 2 <= height,
         Word::Or => 2 <= height,
-        Word::Yes => height < 35,
+        Word::Yes => height < MAX_SLOTS,
         Word::Unknown => false,
     }
 }
@@ -60,7 +66,7 @@ fn height_after(w: Word, at: usize, count: usize, height: usize) -> usize
 fn keeps_rules(w: Word, at: usize, count: usize, height: usize) -> bool
     ensures { λ r. ⌜ r ≡ sound count at height w ⌝ }
 {
-    (at < 127) & may_come(w, count, height)
+    (at < MAX_WORDS) & may_come(w, count, height)
 }
 
 fn walk(program: &[u8], count: usize) -> Reach
