@@ -10,7 +10,6 @@ use lib.Dec.{ltb, eqb}
 use lib.ListN.{length, take, length-append}
 use Rattle.text.proofs.Cases.{both}
 use Rattle.text.specs.Scan.{byteAt}
-use Rattle.program.proofs.Words.{word-push}
 use Rattle.program.specs.Machine.{pushed, andThen, steps}
 use Rattle.program.specs.Rules.{after, height, highest, allowed}
 use Rattle.program.specs.Tree.{Tree, leaf, leafYes, and, or, postfix, Reading, fold, Below, leaves, slots, joinTwo, grown, trees, latest, treeOf}
@@ -25,6 +24,18 @@ postfix-length (leaf k) = refl
 postfix-length leafYes = refl
 postfix-length (and a b) = simp length-append (omega (arith, postfix-length a, postfix-length b))
 postfix-length (or a b) = simp length-append (omega (arith, postfix-length a, postfix-length b))
+
+-- so 64 leaves keep to 127 words
+pub leaves-short : (t : Tree) → leaves t ≤ 64 → length (postfix t) ≤ 127
+leaves-short t l = omega (arith, postfix-length t)
+
+-- numbers below a count are below a larger one
+pub below-more : (t : Tree) (m n : ℕ) → m ≤ n → Below m t → Below n t
+unfolding Below
+below-more (leaf k) m n l b = omega arith
+below-more leafYes m n l b = tt
+below-more (and x y) m n l b = (below-more x m n l (b .0), below-more y m n l (b .1))
+below-more (or x y) m n l b = (below-more x m n l (b .0), below-more y m n l (b .1))
 
 -- each word may come where it stands, h values standing before the first
 abbrev pub Steady : ℕ → ℕ → List ℕ → Type 0
@@ -70,9 +81,6 @@ high-join h m n rest some =
 
 -- what a tree's words do, one behind the other with any rest
 module _ (count : ℕ) (few : count ≤ 64) where
-  leaf-word : (k : ℕ) → k < count → word k ≡ Push (record { 0 = k })
-  leaf-word k l = sym (word-push k (omega arith))
-
   -- the height: one value more
   pub tree-height : (t : Tree) (h : ℕ) (rest : List ℕ) → Below count t → height h (postfix t ++ rest) ≡ height (h + 1) rest
   unfolding postfix Below height word
