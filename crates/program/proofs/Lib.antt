@@ -1,0 +1,10 @@
+pub mod Alike
+pub mod Examples
+pub mod Forest
+pub mod Meaning
+pub mod Own
+pub mod Ran
+pub mod Runs
+pub mod Steady
+pub mod Walk
+pub mod Words
