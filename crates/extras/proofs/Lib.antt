@@ -1,0 +1,5 @@
+pub mod Entries
+pub mod Examples
+pub mod Laws
+pub mod Own
+pub mod Within

@@ -1,0 +1,14 @@
+use Rattle.extras.specs.Item.{itemAt}
+use Rattle.extras.proofs.Laws.{extra}
+use Rattle.extras.proofs.item.item_at.Statement.{statement}
+use Rattle.extras.proofs.item.item_at.Tie as tie
+
+pub item-at-spec : {M : Type 1} → statement M
+unfolding itemAt
+item-at-spec =
+    tie.close
+    (tie.spec
+    (λ c κs. search extra)  -- inside-at-requires
+    (λ c. search extra)  -- returns
+    (λ c κs. search extra)  -- new-requires
+    (λ c. search extra))  -- returns-2

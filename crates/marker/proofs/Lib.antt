@@ -1,0 +1,13 @@
+mod Chain
+mod Copies
+mod Doors
+mod Emit
+pub mod Fuel
+mod Held
+mod Items
+mod Laws
+pub mod Meaning
+pub mod Numbered
+mod Quickly
+mod Typed
+mod Whole

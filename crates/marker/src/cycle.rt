@@ -1,0 +1,118 @@
+// Or-chain, and-chain and comparison-or-group call each other: at each call the remaining depth falls, or else the rank of the function.
+ghost use mathlib.Core.Path.{_≡_};
+ghost use Rattle.marker.specs.Grammar.{itemOf, andOf, orOf, groupAt, parseFrom};
+ghost use Rattle.marker.specs.Marking.{nothing};
+ghost use Rattle.marker.specs.Steps.{rawOf, viewOf, shows, Inside, stateOf, wholeOf};
+use crate::lists::Counts;
+use crate::part::Onward;
+use crate::part::Progress;
+use crate::part::refused;
+use crate::step::ahead_and;
+use crate::step::ahead_or;
+use crate::step::close;
+use crate::step::finish;
+use crate::step::join;
+use crate::step::take_in;
+use comparison::find;
+use text::Cursor;
+use text::Fault;
+use text::Refusal;
+use text::has;
+
+fn or_chain(
+    line: &[u8],
+    from: Cursor,
+    depth: usize,
+    comps: &mut [usize; 320],
+    warns: &mut [usize; 192],
+    words: &mut [u8; 127],
+    counts: Counts,
+) -> Progress
+    requires { ⌜ Inside counts ⌝ }
+    ensures { λ r. ⌜ shows r (now (comps .exit)) (now (warns .exit)) (now (words .exit)) ≡ stateOf (orOf (now (line .entry)) (groupAt (now (line .entry)) depth) (from .at) (counts .kept) (counts .warned)) (viewOf (now (comps .entry)) (now (warns .entry)) (now (words .entry)) counts) ⌝ }
+{
+    let mut left = and_chain(line, from, depth, comps, warns, words, counts);
+    loop {
+        let on = ahead_or(line, left);
+        match on {
+            Onward::Stop => return left,
+            Onward::On(next, some) => {
+                let so_far = left.counts;
+                let right = and_chain(line, next, depth, comps, warns, words, so_far);
+                left = join(some, right, words, 65);
+            }
+        }
+    }
+}
+
+fn and_chain(
+    line: &[u8],
+    from: Cursor,
+    depth: usize,
+    comps: &mut [usize; 320],
+    warns: &mut [usize; 192],
+    words: &mut [u8; 127],
+    counts: Counts,
+) -> Progress
+    requires { ⌜ Inside counts ⌝ }
+    ensures { λ r. ⌜ shows r (now (comps .exit)) (now (warns .exit)) (now (words .exit)) ≡ stateOf (andOf (now (line .entry)) (groupAt (now (line .entry)) depth) (from .at) (counts .kept) (counts .warned)) (viewOf (now (comps .entry)) (now (warns .entry)) (now (words .entry)) counts) ⌝ }
+{
+    let mut left = comparison_or_group(line, from, depth, comps, warns, words, counts);
+    loop {
+        let on = ahead_and(line, left);
+        match on {
+            Onward::Stop => return left,
+            Onward::On(next, some) => {
+                let so_far = left.counts;
+                let right = comparison_or_group(line, next, depth, comps, warns, words, so_far);
+                left = join(some, right, words, 64);
+            }
+        }
+    }
+}
+
+fn comparison_or_group(
+    line: &[u8],
+    from: Cursor,
+    depth: usize,
+    comps: &mut [usize; 320],
+    warns: &mut [usize; 192],
+    words: &mut [u8; 127],
+    counts: Counts,
+) -> Progress
+    requires { ⌜ Inside counts ⌝ }
+    ensures { λ r. ⌜ shows r (now (comps .exit)) (now (warns .exit)) (now (words .exit)) ≡ stateOf (itemOf (now (line .entry)) (groupAt (now (line .entry)) depth) (from .at) (counts .kept) (counts .warned)) (viewOf (now (comps .entry)) (now (warns .entry)) (now (words .entry)) counts) ⌝ }
+{
+    let here = from.skip_whitespace(line);
+    let at = here.at;
+    if has(line, at, b'(') {
+        if depth == 0 {
+            return refused(Refusal::new(Fault::TooDeep, at, 1));
+        }
+        let inside = Cursor { at: at + 1 };
+        let inner = or_chain(line, inside, depth - 1, comps, warns, words, counts);
+        return close(line, at, inner);
+    }
+    let found = find(line, here);
+    take_in(found, comps, warns, words, counts)
+}
+
+// From a place to the end of the line, into arrays of zeros.
+pub fn read_from(
+    line: &[u8],
+    from: Cursor,
+    comps: &mut [usize; 320],
+    warns: &mut [usize; 192],
+    words: &mut [u8; 127],
+) -> Progress
+    requires { ⌜ viewOf (now comps) (now warns) (now words) (record { kept = 0; warned = 0; words = 0 }) ≡ rawOf nothing ⌝ }
+    ensures { λ r. ⌜ shows r (now (comps .exit)) (now (warns .exit)) (now (words .exit)) ≡ wholeOf (parseFrom (now (line .entry)) (from .at)) ⌝ }
+{
+    let none = Counts {
+        kept: 0,
+        warned: 0,
+        words: 0,
+    };
+    let whole = or_chain(line, from, Cursor::MAX_DEPTH, comps, warns, words, none);
+    finish(line, whole, words)
+}

@@ -1,0 +1,20 @@
+// The marker reader: three functions in a cycle over a lent line, and the doors that answer what they read.
+mod cycle;
+mod door;
+mod lists;
+mod part;
+mod quick;
+mod step;
+mod store;
+
+pub use door::Marker;
+pub use door::Outcome;
+pub use door::read_marker;
+pub use door::read_marker_from;
+pub use lists::Counts;
+pub use lists::Lists;
+pub use lists::Warning;
+pub use lists::empty_lists;
+pub use quick::Quick;
+pub use quick::read_quick;
+pub use quick::read_quick_from;

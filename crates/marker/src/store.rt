@@ -1,0 +1,76 @@
+// A comparison is five numbers of an array, a warning three.
+ghost use mathlib.Core.Path.{_≡_};
+ghost use Prim.Native.Nat.{_<_};
+ghost use Rattle.marker.specs.Grammar.{warningOf};
+ghost use Rattle.marker.specs.Steps.{putComparison, putWarning};
+ghost use Rattle.marker.specs.Store.{comparisonIn, warningIn};
+use crate::lists::Warning;
+use comparison::Comparison;
+use marker_code::key_code;
+use marker_code::key_of;
+use marker_code::operator_code;
+use marker_code::operator_of;
+use marker_code::sort_code;
+use marker_code::sort_of;
+use text::Offset;
+use text::Span;
+
+pub fn store_comparison(comps: &mut [usize; 320], n: usize, comparison: Comparison)
+    requires { ⌜ n < 64 ⌝ }
+    ensures { λ r. ⌜ now (comps .exit) ≡ putComparison (now (comps .entry)) n comparison ⌝ }
+{
+    let sort = comparison.sort;
+    let key = comparison.key;
+    let operator = comparison.operator;
+    let literal = comparison.literal;
+    let start = literal.start;
+    let at = 5 * n;
+    comps[at] = sort_code(sort);
+    comps[at + 1] = key_code(key);
+    comps[at + 2] = operator_code(operator);
+    comps[at + 3] = start.0;
+    comps[at + 4] = literal.len;
+}
+
+pub fn store_warning(warns: &mut [usize; 192], n: usize, kind: usize, span: Span)
+    requires { ⌜ n < 64 ⌝ }
+    ensures { λ r. ⌜ now (warns .exit) ≡ putWarning (now (warns .entry)) n (warningOf kind span) ⌝ }
+{
+    let start = span.start;
+    let at = 3 * n;
+    warns[at] = kind;
+    warns[at + 1] = start.0;
+    warns[at + 2] = span.len;
+}
+
+pub fn load_comparison(comps: &[usize; 320], n: usize) -> Comparison
+    requires { ⌜ n < 64 ⌝ }
+    ensures { λ r. ⌜ r ≡ comparisonIn (now (comps .entry)) n ⌝ }
+{
+    let at = 5 * n;
+    let literal = Span {
+        start: Offset(comps[at + 3]),
+        len: comps[at + 4],
+    };
+    Comparison {
+        sort: sort_of(comps[at]),
+        key: key_of(comps[at + 1]),
+        operator: operator_of(comps[at + 2]),
+        literal,
+    }
+}
+
+pub fn load_warning(warns: &[usize; 192], n: usize) -> Warning
+    requires { ⌜ n < 64 ⌝ }
+    ensures { λ r. ⌜ r ≡ warningIn (now (warns .entry)) n ⌝ }
+{
+    let at = 3 * n;
+    let span = Span {
+        start: Offset(warns[at + 1]),
+        len: warns[at + 2],
+    };
+    Warning {
+        kind: warns[at],
+        span,
+    }
+}

@@ -1,0 +1,18 @@
+// What a reader of a list meets, and what it answers.
+use text::Cursor;
+use text::Refusal;
+use text::Span;
+
+pub enum Item {
+    // A span of the list, and where its next item is read.
+    One(Span, Cursor),
+    // The list's end, and where reading goes on.
+    End(Cursor),
+    Refused(Refusal),
+}
+
+pub enum Listed {
+    // So many spans, and where reading goes on.
+    Read(usize, Cursor),
+    Refused(Refusal),
+}

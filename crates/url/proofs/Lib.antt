@@ -1,0 +1,5 @@
+pub mod Examples
+pub mod Laws
+pub mod Own
+pub mod Plain
+pub mod Within
