@@ -1,0 +1,123 @@
+-- "Cases to prove together: One table, one statement over it", over the line, extras and marker entries and the normaliser; with PEP 508's own lines and
+-- further rows. Assumes nothing.
+use mathlib.Core.List.{List, [], _∷_, map}
+use mathlib.Core.Path.{_≡_, refl}
+use Prim.Native.Nat.{ℕ}
+use Prim.Native.String.{String}
+use lib.ListN.{length}
+use Rattle.comparison.specs.Found.{foundAt}
+use Rattle.comparison.specs.Operator.{laterSymbolIn, symbolIn, symbolAt, inAt, notAt, wordAt, operatorAt}
+use Rattle.comparison.specs.Value.{lastNameIn, stringNameIn, versionNameIn, namedAt, quotedAt, valueAt}
+use Rattle.name.specs.Normal.{normal, badAt}
+use Rattle.name.specs.Normalise.{output}
+use Rattle.text.specs.Answer.{Answer, good, refused}
+use Rattle.text.specs.Check.{checked}
+use Rattle.text.specs.Refusal.{given}
+use Rattle.text.specs.Scan.{run, skip}
+use Rattle.text.specs.Word.{bytes, beginsBy}
+use Rattle.text.specs.declared.refusal.Span.{Span}
+use Rattle.version.specs.Joined.{moreLen, more as moreJoined}
+use Rattle.version.specs.Layout.{epochLen, segmentLen, localLen, layout}
+use Rattle.version.specs.Number.{valueFrom, numberLen}
+use Rattle.version.specs.Part.{wordLen, partLen, postLen}
+use Rattle.version.specs.Reading.{pieces}
+use Rattle.version.specs.Rules.{isVersion, laterOperatorIn, operatorIn, goesWith, isSpecifier, allVersions, isVersionList}
+use Rattle.spans.specs.Reading.{listFrom, spansIn, outcome}
+use Rattle.extras.specs.Entry.{entry}
+use Rattle.extras.specs.Item.{itemAt as extraItemAt}
+use Rattle.extras.specs.Reading.{extrasAt}
+use Rattle.url.specs.Url.{closesAt, stopsAt, firstFrom, urlEnd, goesOn, urlAt}
+use Rattle.specifiers.specs.Item.{textTo, itemAt as textItemAt}
+use Rattle.specifiers.specs.Reading.{bareAt, specifiersAt}
+use Rattle.line_name.specs.Name.{nameAt}
+use Rattle.line_head.specs.Head.{tailAt, wantedAt, textsAt, fromTail, fromWanted, fromExtras, head, textsFrom, extrasOf, textsOf}
+use Rattle.marker.specs.Answer.{markerAnswer}
+use Rattle.marker.specs.Grammar.{keptOf, warnedOf, settled, settle, wordAhead, more, chain, itemAt, itemOf, andOf, orOf, closed, groupAt, ending, parseFrom}
+use Rattle.marker.specs.Marking.{Marking, some, wordsFrom, program}
+use Rattle.line.specs.Line.{Parts, lineParts, lineAnswer}
+use Rattle.line.specs.declared.door.Url.{Url}
+use Rattle.line.specs.declared.door.Url.the-variants.{Absent, At}
+use Rattle.cases.proofs.Markers.{Row, short}
+
+-- what is asked: an entry and its text
+pub data Question : Type 0 where
+  marker extras name line : String → Question
+
+-- an answer in short: a marker's as in `Markers`; spans as a start and a length; a normal form
+pub data Reply : Type 0 where
+  marked : Row → Reply
+  listed : List (ℕ × ℕ) → Reply
+  written : List ℕ → Reply
+  required : ℕ × ℕ → List (ℕ × ℕ) → List (ℕ × ℕ) → List (ℕ × ℕ) → Row → Reply
+
+abbrev on : {A B : Type 0} → (A → B) → Answer A → Answer B
+on f (good a) = good (f a)
+on f (refused number start len) = refused number start len
+
+abbrev placed : Span → ℕ × ℕ
+placed x = (x .start .0, x .len)
+
+abbrev urls : Url → List (ℕ × ℕ)
+urls Absent = []
+urls (At x) = placed x ∷ []
+
+abbrev rowOf : Marking → Row
+rowOf m = (length (m .comparisons), map (λ w. (w .kind, w .span .start .0, w .span .len)) (m .warnings), m .words)
+
+abbrev parts : Parts → Reply
+parts p = required (placed (p .name)) (map placed (p .extras)) (map placed (p .specifiers)) (urls (p .url)) (rowOf (p .marking))
+
+abbrev replied : Question → Answer Reply
+replied (marker t) = on marked (short (checked (bytes t) (markerAnswer (bytes t) 0)))
+replied (extras t) = on (λ l. listed (map placed l)) (entry (bytes t))
+replied (name t) = good (written (output (bytes t) (bytes "#########")))
+replied (line t) = on parts (lineAnswer (bytes t))
+
+abbrev nothing : Row
+nothing = (0, [], 66 ∷ [])
+
+abbrev pub table : List (Question × Answer Reply)
+table =
+    (marker "os_name=='a'and os_name=='b'", good (marked (2, [], 0 ∷ 1 ∷ 64 ∷ [])))  -- 1
+    ∷ (marker "os_name=='a' and(os_name=='b')", refused 24 13 16)  -- 2
+    ∷ (marker "os_name=='a' or os_name=='b' and os_name=='c'", good (marked (3, [], 0 ∷ 1 ∷ 2 ∷ 64 ∷ 65 ∷ [])))  -- 3
+    ∷ (marker "'a'=='b' or os_name=='c'", good (marked (1, (5, 0, 8) ∷ [], 0 ∷ [])))  -- 4
+    ∷ (marker "('a'=='b')", good (marked (0, (5, 1, 8) ∷ [], 66 ∷ [])))  -- 5
+    ∷ (marker "python_version in 'abc'", good (marked (0, (1, 0, 23) ∷ (1, 0, 23) ∷ [], 66 ∷ [])))  -- 6
+    ∷ (marker "os_name ~= 'a'", good (marked (0, (3, 0, 14) ∷ [], 66 ∷ [])))  -- 7
+    ∷ (marker "'a' ~= os_name", good (marked (1, [], 0 ∷ [])))
+    ∷ (marker "os_name not in'x'", good (marked (1, [], 0 ∷ [])))  -- 8
+    ∷ (marker "os_name not'x'", refused 21 11 1)
+    ∷ (marker "", refused 18 0 1)  -- 9
+    ∷ (marker "os_name=='a", refused 22 9 1)
+    ∷ (extras "[,", refused 7 1 1)  -- 10
+    ∷ (extras "[a,]", refused 8 3 1)
+    ∷ (name "Foo._-Bar", good (written (bytes "foo-bar##")))  -- 11
+    ∷ (line "foo-;", refused 5 3 1)  -- 12
+    ∷ (line "A", good (required (0, 1) [] [] [] nothing))
+    ∷ (line "A.B-C_D", good (required (0, 7) [] [] [] nothing))
+    ∷ (line "name<=1", good (required (0, 4) [] ((4, 3) ∷ []) [] nothing))
+    ∷ (line "name>=3,<2", good (required (0, 4) [] ((4, 3) ∷ (8, 2) ∷ []) [] nothing))
+    ∷ (line "name@http://foo.com", good (required (0, 4) [] [] ((5, 14) ∷ []) nothing))
+    ∷ (line "name [fred,bar] @ http://foo.com ; python_version=='2.7'", good (required (0, 4) ((6, 4) ∷ (11, 3) ∷ []) [] ((18, 14) ∷ []) (1, [], 0 ∷ [])))
+    ∷ (line "name[quux, strange];python_version<'2.7' and platform_version=='2'", good (required (0, 4) ((5, 4) ∷ (11, 7) ∷ []) [] [] (2, [], 0 ∷ 1 ∷ 64 ∷ [])))
+    ∷ (line " requests [security] (>= 2.8.1, == 2.8.*) ; extra=='a-'", good (required (1, 8) ((11, 8) ∷ []) ((22, 8) ∷ (31, 9) ∷ []) [] (1, (4, 44, 11) ∷ [], 0 ∷ [])))
+    ∷ (line "a @ http://x; os_name=='a'", refused 17 14 1)
+    ∷ (line "a @ ;", good (required (0, 1) [] [] ((4, 1) ∷ []) nothing))
+    ∷ (line "", refused 3 0 1)
+    ∷ (line " .a", refused 4 1 1)
+    ∷ (line "a[b", refused 6 1 1)
+    ∷ (line "a[b c]", refused 9 4 1)
+    ∷ (line "a[b!]", refused 10 3 1)
+    ∷ (line "a[b-]", refused 11 3 1)
+    ∷ (line "a @ ", refused 13 4 0)
+    ∷ (line "a>=x", refused 14 1 3)
+    ∷ (line "a(>=1", refused 15 1 1)
+    ∷ (line "a b", refused 17 2 1)
+    ∷ (line "a;", refused 18 2 1)
+    ∷ (line "a; os_name=='b' c", refused 24 16 0)
+    ∷ []
+
+pub holds : map (λ e. replied (e .0)) table ≡ map (λ e. e .1) table
+unfolding given run skip beginsBy normal badAt moreLen moreJoined epochLen segmentLen localLen layout valueFrom numberLen wordLen partLen postLen pieces isVersion laterOperatorIn operatorIn goesWith isSpecifier allVersions isVersionList listFrom spansIn outcome extraItemAt extrasAt closesAt stopsAt firstFrom urlEnd goesOn urlAt textTo textItemAt bareAt specifiersAt nameAt tailAt wantedAt textsAt fromTail fromWanted fromExtras head textsFrom extrasOf textsOf laterSymbolIn symbolIn symbolAt inAt notAt wordAt operatorAt lastNameIn stringNameIn versionNameIn namedAt quotedAt valueAt foundAt keptOf warnedOf settled settle wordAhead more chain itemAt itemOf andOf orOf closed groupAt ending parseFrom some wordsFrom program lineParts
+holds = refl
