@@ -8,6 +8,7 @@ mod Items
 mod Laws
 pub mod Meaning
 pub mod Numbered
+pub mod Own
 mod Quickly
 mod Typed
 mod Whole

@@ -24,6 +24,7 @@ use text::Span;
 use text::has;
 use text::spelled;
 
+// A kept comparison: its five numbers, and the word that pushes it.
 fn keep(
     comps: &mut [usize; 320],
     words: &mut [u8; 127],
@@ -44,6 +45,7 @@ fn keep(
     }
 }
 
+// A warning: its three numbers. An ignored comparison leaves nothing else.
 fn warn(warns: &mut [usize; 192], counts: Counts, kind: u8, span: Span) -> Counts
     requires { ⌜ counts .warned < 64 ⌝ }
     ensures { λ r. ⌜ ((cs ps : List ℕ) → viewOf cs (now (warns .exit)) ps r ≡ warning (warningOf kind span) (viewOf cs (now (warns .entry)) ps counts)) ⌝ }
@@ -57,6 +59,7 @@ fn warn(warns: &mut [usize; 192], counts: Counts, kind: u8, span: Span) -> Count
     }
 }
 
+// A word of the program that is no comparison's.
 fn push(words: &mut [u8; 127], counts: Counts, word: u8) -> Counts
     requires { ⌜ counts .words < 127 ⌝ }
     ensures { λ r. ⌜ ((cs ws : List ℕ) → viewOf cs ws (now (words .exit)) r ≡ pushed (viewOf cs ws (now (words .entry)) counts) word) ⌝ }
@@ -70,6 +73,7 @@ fn push(words: &mut [u8; 127], counts: Counts, word: u8) -> Counts
     }
 }
 
+// How many comparisons a verdict keeps, and how many warnings it gives: known before the first number is stored.
 fn kept_in(verdict: Verdict) -> usize
     ensures { λ r. ⌜ r ≡ length (keptIn verdict) ⌝ }
 {
@@ -132,7 +136,8 @@ fn settle_one(
     ensures { λ r. ⌜ shows r (now (comps .exit)) (now (warns .exit)) (now (words .exit)) ≡ stateOf (settled verdict span (next .at) (counts .kept) (counts .warned)) (viewOf (now (comps .entry)) (now (warns .entry)) (now (words .entry)) counts) ⌝ }
 {
     let kept = kept_in(verdict);
-    if Cursor::MAX_COMPARISONS < counts.warned + warned_in(verdict) {
+    let warned = warned_in(verdict);
+    if Cursor::MAX_COMPARISONS < counts.warned + warned {
         let fault = Fault::WarningsMany;
         return refused(Refusal { fault, span });
     }
@@ -205,6 +210,7 @@ fn ahead(line: &[u8], left: Progress, word: &[u8]) -> Onward
     }
 }
 
+// The joining words stand here, as fixed byte strings, and not in the functions of the cycle.
 pub fn ahead_and(line: &[u8], left: Progress) -> Onward
     ensures { λ r. ⌜ r ≡ onward (left .part) (wordAhead andWord (now (line .entry))) ⌝ }
 {

@@ -10,10 +10,10 @@ settle-one-spec =
     tie.close
     (tie.spec
     (λ c κs. search needs) (λ c κs. search needs)
-    (λ c. omega (arith, c .before .before .before .pre .warned-fits, c .before .warned-in .ensures (c .before .before .before .args .span), warned-few (c .before .before .before .args .verdict) (c .before .before .before .args .span)))
+    (λ c. omega (arith, c .before .before .before .pre, c .before .warned-in .ensures (c .before .before .before .args .span), c .before .before .kept-in .ensures, warned-few (c .before .before .before .args .verdict) (c .before .before .before .args .span), kept-few (c .before .before .before .args .verdict)))
     (λ c κs. search needs)
     (λ c. shows-refused _ _ _ _ (c .refused .ensures) ∙ settled-warnings _ _ _ _ _ _ (omega (arith, c .before .if1 .taken, c .before .before .before .warned-in .ensures (c .before .before .before .before .before .args .span))))
-    (λ c. omega (arith, c .before .before .before .before .before .pre .kept-fits, c .before .before .before .before .kept-in .ensures, kept-few (c .before .before .before .before .before .args .verdict)))
+    (λ c. omega (arith, c .before .before .before .before .before .pre, c .before .before .before .warned-in .ensures (c .before .before .before .before .before .args .span), c .before .before .before .before .kept-in .ensures, warned-few (c .before .before .before .before .before .args .verdict) (c .before .before .before .before .before .args .span), kept-few (c .before .before .before .before .before .args .verdict)))
     (λ c κs. search needs)
     (λ c. shows-refused _ _ _ _ (c .refused2 .ensures) ∙ settled-comparisons _ _ _ _ _ _ (omega (arith, c .before .before .before .if1 .left, c .before .before .before .before .before .warned-in .ensures (c .before .before .before .before .before .before .before .args .span))) (omega (arith, c .before .if2 .taken, c .before .before .before .before .before .before .kept-in .ensures)))
     (λ c κs. (c .before .before .before .before .before .before .before .before .before .pre, omega (arith, c .before .before .before .before .before .if1 .left, c .before .before .before .before .before .before .before .warned-in .ensures (c .before .before .before .before .before .before .before .before .before .args .span)), omega (arith, c .before .before .before .if2 .left, c .before .before .before .before .before .before .before .before .kept-in .ensures)))
