@@ -1,1 +1,3 @@
+pub mod Figures
 pub mod Line
+pub mod Ready

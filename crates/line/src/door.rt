@@ -99,7 +99,7 @@ fn unmarked_lists() -> Lists
     }
 }
 
-fn url_of(wanted: Wanted) -> Url
+pub fn url_of(wanted: Wanted) -> Url
     ensures { λ r. ⌜ r ≡ urlOf wanted ⌝ }
 {
     match wanted {
@@ -108,7 +108,7 @@ fn url_of(wanted: Wanted) -> Url
     }
 }
 
-fn text_count(wanted: Wanted) -> usize
+pub fn text_count(wanted: Wanted) -> usize
     ensures { λ r. ⌜ r ≡ textCount wanted ⌝ }
 {
     match wanted {

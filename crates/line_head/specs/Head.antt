@@ -45,24 +45,26 @@ tailAt s at =
     (cond (eqb (byteAt s at) (code ";")) (good (Tail.Marker (cursor (at + 1)))) (refused 17 at 1))
     (good Tail.End)
 
--- "Then `@` URL, or `(` specifiers `)`, or specifiers if the byte is one of `<=>~!`, or `;`, or the end": where none starts there are no specifiers, and "else 17" is the tail's
 -- how many specifiers
 abbrev pub textCount : Wanted → ℕ
 textCount (Wanted.Specifiers n) = n
 textCount (Wanted.Url url) = 0
 
+-- what is wanted and where reading goes on, by a URL or by a list
 abbrev pub byUrl : Span × ℕ → Wanted × ℕ
 byUrl u = (Wanted.Url (u .0), u .1)
 
 abbrev pub byList : ℕ × ℕ → Wanted × ℕ
 byList r = (Wanted.Specifiers (r .0), r .1)
 
+-- "Then `@` URL, or `(` specifiers `)`, or specifiers if the byte is one of `<=>~!`, or `;`, or the end": where none starts there are no specifiers, and "else 17" is the tail's
 unfoldable pub wantedAt : List ℕ → ℕ → Answer (Wanted × ℕ)
 wantedAt s at =
     let url = onGood byUrl (urlAt s (at + 1)) in
     let specifiers = onGood byList (counted (specifiersAt s at)) in
     cond (eqb (byteAt s at) (code "@")) url specifiers
 
+-- the specifiers that are read there
 unfoldable pub textsAt : List ℕ → ℕ → List Span
 textsAt s at = let texts = spansIn (specifiersAt s at) in cond (eqb (byteAt s at) (code "@")) [] texts
 

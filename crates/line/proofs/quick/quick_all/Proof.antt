@@ -1,0 +1,15 @@
+use Rattle.line.proofs.Written.{quickly, stop-outcome, stop-figures, stop-buffers}
+use Rattle.line.proofs.quick.quick_all.Statement.{statement}
+use Rattle.line.proofs.quick.quick_all.Tie as tie
+
+pub quick-all-spec : {M : Type 1} → statement M
+quick-all-spec =
+    tie.close
+    (tie.spec
+    (λ c κs. search quickly)  -- head-of-requires
+    (λ c. search quickly)  -- enum-known-head
+    (λ c κs. search quickly)  -- quick-whole-requires
+    (λ c. search quickly)  -- enum-known-why
+    (λ c κs. search quickly)  -- refused-quick-requires
+    (λ c. search quickly)  -- returns
+    (λ c. (search stop-outcome, (search stop-figures, search stop-buffers))))  -- returns-2
