@@ -1,4 +1,3 @@
-pub mod Appendix
 pub mod Examples
 pub mod Joins
 pub mod Layouts

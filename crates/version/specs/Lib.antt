@@ -1,4 +1,3 @@
-pub mod Appendix
 pub mod Joined
 pub mod Layout
 pub mod Number

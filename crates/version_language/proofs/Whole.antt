@@ -12,10 +12,10 @@ use lib.Seq.{drop-at}
 use Rattle.text.proofs.Cases.{both}
 use Rattle.text.specs.Class.{isDigit, isAlnum, isLetter}
 use Rattle.text.specs.Scan.{run, byteAt}
-use Rattle.version.specs.Appendix.{Regex, none, some, matches, all, one, many, _then_, number, segment, bounded}
+use Rattle.version_language.specs.Appendix.{Regex, none, some, matches, all, one, many, _then_, number, segment, bounded}
 use Rattle.version.specs.Joined.{moreLen, more}
 use Rattle.version.specs.Layout.{segmentLen}
 use Rattle.version.specs.Number.{valueFrom, numberLen}
 
 module _ (p : ℕ → Bool) where
   run-none : (w : List ℕ) → p (byteAt w 0) ≡ false → run p w ≡ 0

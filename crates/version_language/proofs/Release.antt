@@ -13,13 +13,13 @@ use lib.ListN.{length, drop, length-append}
 use lib.Seq.{getD-append-add}
 use Rattle.text.specs.Class.{isSpace, isDigit, small}
 use Rattle.text.specs.Scan.{run, skip, byteAt}
-use Rattle.version.proofs.Appendix.Bytes.{digit-ascii, space-ascii, inside, apart}
-use Rattle.version.proofs.Appendix.Parts.{fromFirst, fromEpoch, fromStart, fromV, released, there-or-not, Cut, cut-none, cut-seam, follow}
-use Rattle.version.proofs.Appendix.Whole.{run-whole, number-whole, number-first, number-there, more-first, joined-whole}
-use Rattle.version.specs.Appendix.{Regex, matches, one, word, _then_, sign, number}
+use Rattle.version_language.proofs.Bytes.{digit-ascii, space-ascii, inside, apart}
+use Rattle.version_language.proofs.Parts.{fromFirst, fromEpoch, fromStart, fromV, released, there-or-not, Cut, cut-none, cut-seam, follow}
+use Rattle.version_language.proofs.Whole.{run-whole, number-whole, number-first, number-there, more-first, joined-whole}
+use Rattle.version_language.specs.Appendix.{Regex, matches, one, word, _then_, sign, number}
 use Rattle.version.specs.Joined.{more}
 use Rattle.version.specs.Layout.{vLen, epochLen, isDot, layout, hasRelease}
 use Rattle.version.specs.Number.{numberLen}
 
 -- a dot is of no class that has no dot
 dot-not : (p : ℕ → Bool) → p (code ".") ≡ false → (b : ℕ) → isDot b ≡ true → p b ≡ false

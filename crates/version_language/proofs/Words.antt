@@ -13,10 +13,10 @@ use Rattle.text.proofs.Cases.{both}
 use Rattle.text.specs.Class.{isDigit, isSeparator, small}
 use Rattle.text.specs.Scan.{byteAt}
 use Rattle.text.specs.Word.{bytes, begins, beginsBy}
-use Rattle.version.proofs.Appendix.Bytes.{Apart, lettered, listed}
-use Rattle.version.proofs.Appendix.Parts.{preWord, postWord, devWord}
-use Rattle.version.specs.Appendix.{Regex, matches}
+use Rattle.version_language.proofs.Bytes.{Apart, lettered, listed}
+use Rattle.version_language.proofs.Parts.{preWord, postWord, devWord}
+use Rattle.version_language.specs.Appendix.{Regex, matches}
 use Rattle.version.specs.Part.{says, wordLen, preWords, postWords, devWords}
 
 -- the same search in a text whose letters are small
 wordIn : List (List ℕ) → List ℕ → ℕ

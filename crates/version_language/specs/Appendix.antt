@@ -1,5 +1,5 @@
 -- PEP 440's Appendix B as a regular expression, "case ignored", with "outer whitespace" and document 01's bound on numbers. Behind each line stands
--- the Appendix's own. It shares no grammar with the reading, which accepts exactly this language: proofs/Appendix.
+-- the Appendix's own. It shares no grammar with the reading, which accepts exactly this language: proofs/Complete, proofs/Sound.
 use mathlib.Core.Path.{_≡_}
 use mathlib.Core.Bool.{Bool, true, _&&_, _||_, not}
 use mathlib.Core.List.{List, [], _∷_, _++_, map}

@@ -15,14 +15,14 @@ use lib.Seq.{drop-at}
 use Rattle.text.specs.Class.{isDigit, isSeparator, small}
 use Rattle.text.specs.Scan.{byteAt}
 use Rattle.text.specs.Word.{bytes}
-use Rattle.version.proofs.Appendix.Bytes.{Apart, lettered, listed, separator-ascii, apart}
-use Rattle.version.proofs.Appendix.Front.{letter, letter-no-number, labelled-letter, post-letter, devs, Labelled, plain, behind, unlabel, word-there, no-separator, Follows, dev-follows, post-follows, pre-follows, post-quiet, counted-quiet, no-dev, no-post, no-pre}
-use Rattle.version.proofs.Appendix.Parts.{preWord, postWord, devWord, afterDev, afterPost, afterPre, afterRelease, counted, there-or-not, Cut, cut-none, cut-seam, cut-cut}
-use Rattle.version.proofs.Appendix.Whole.{number-whole, number-first, number-there, number-none}
-use Rattle.version.proofs.Appendix.Words.{goesOn, pre-whole, post-whole, dev-whole, Begins, pre-begins, post-begins, dev-begins}
-use Rattle.version.specs.Appendix.{Regex, matches, all, one, opt, _then_, separator, number, pre, post, dev}
+use Rattle.version_language.proofs.Bytes.{Apart, lettered, listed, separator-ascii, apart}
+use Rattle.version_language.proofs.Front.{letter, letter-no-number, labelled-letter, post-letter, devs, Labelled, plain, behind, unlabel, word-there, no-separator, Follows, dev-follows, post-follows, pre-follows, post-quiet, counted-quiet, no-dev, no-post, no-pre}
+use Rattle.version_language.proofs.Parts.{preWord, postWord, devWord, afterDev, afterPost, afterPre, afterRelease, counted, there-or-not, Cut, cut-none, cut-seam, cut-cut}
+use Rattle.version_language.proofs.Whole.{number-whole, number-first, number-there, number-none}
+use Rattle.version_language.proofs.Words.{goesOn, pre-whole, post-whole, dev-whole, Begins, pre-begins, post-begins, dev-begins}
+use Rattle.version_language.specs.Appendix.{Regex, matches, all, one, opt, _then_, separator, number, pre, post, dev}
 use Rattle.version.specs.Number.{numberLen}
 use Rattle.version.specs.Part.{sepLen, wordLen, countLen, partLen, preWords, postWords, devWords, preLen, postLen, devLen}
 
 count-plain : (v : List ℕ) → isSeparator (byteAt v 0) ≡ false → countLen v ≡ numberLen v
 count-plain v h = rw h (zero-add (numberLen v))

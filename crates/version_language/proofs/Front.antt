@@ -12,14 +12,14 @@ use Rattle.text.proofs.Cases.{both}
 use Rattle.text.specs.Class.{isSpace, isDigit, isSeparator, small}
 use Rattle.text.specs.Scan.{byteAt}
 use Rattle.text.specs.Word.{bytes}
-use Rattle.version.proofs.Appendix.Bytes.{Apart, lettered, Ascii, listed, among, digit-ascii, space-ascii, separator-ascii, inside, apart}
-use Rattle.version.proofs.Appendix.Parts.{labelled, preWord, postWord, devWord, local, afterDev, afterPost, afterPre, afterRelease, counted, there-or-not, without, with-it, Cut, cut-seam}
-use Rattle.version.proofs.Appendix.Whole.{number-whole, number-first, number-none}
-use Rattle.version.proofs.Appendix.Words.{goesOn, clear, no-words, post-no-pre, Begins, pre-begins, post-begins, dev-begins}
-use Rattle.version.specs.Appendix.{Regex, matches, all, one, _then_, spaces, separator, number, post, dev}
+use Rattle.version_language.proofs.Bytes.{Apart, lettered, Ascii, listed, among, digit-ascii, space-ascii, separator-ascii, inside, apart}
+use Rattle.version_language.proofs.Parts.{labelled, preWord, postWord, devWord, local, afterDev, afterPost, afterPre, afterRelease, counted, there-or-not, without, with-it, Cut, cut-seam}
+use Rattle.version_language.proofs.Whole.{number-whole, number-first, number-none}
+use Rattle.version_language.proofs.Words.{goesOn, clear, no-words, post-no-pre, Begins, pre-begins, post-begins, dev-begins}
+use Rattle.version_language.specs.Appendix.{Regex, matches, all, one, _then_, spaces, separator, number, post, dev}
 use Rattle.version.specs.Layout.{isDot}
 use Rattle.version.specs.Number.{numberLen}
 use Rattle.version.specs.Part.{sepLen, wordLen, preWords, postWords, devWords}
 
 -- the first byte, or the one behind a separator
 abbrev pub letter : List ℕ → ℕ

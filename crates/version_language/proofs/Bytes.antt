@@ -10,7 +10,7 @@ use borrow.Author.Tests.{eqb-true, eqb-false}
 use lib.Dec.{eqb}
 use Rattle.text.proofs.Cases.{both, within-true}
 use Rattle.text.specs.Class.{isSpace, isDigit, isSeparator, within, small}
-use Rattle.version.specs.Appendix.{all}
+use Rattle.version_language.specs.Appendix.{all}
 
 -- one of a few bytes
 abbrev pub listed : List ℕ → ℕ → Bool

@@ -17,14 +17,14 @@ use Rattle.text.proofs.Words.{begins-word}
 use Rattle.text.specs.Class.{isSpace, isDigit, isAlnum, isLetter, isSeparator, small}
 use Rattle.text.specs.Scan.{run, skip, byteAt}
 use Rattle.text.specs.Word.{bytes, begins, beginsBy}
-use Rattle.version.proofs.Appendix.Matching.{joined, joined-front, perhaps, one-front, opt-one-front, run-all, value-run, all-run, all-of, every}
-use Rattle.version.proofs.Appendix.Parts.{labelled, preWord, postWord, devWord, local, afterDev, afterPost, afterPre, afterRelease, starred, fromFirst, fromEpoch, fromStart, fromV, released}
-use Rattle.version.specs.Appendix.{Regex, none, some, matches, all, one, word, opt, many, _then_, _or_, sign, spaces, separator, number, segment, bounded, pre, post, dev, versionRegex, patternRegex}
+use Rattle.version_language.proofs.Matching.{joined, joined-front, perhaps, one-front, opt-one-front, run-all, value-run, all-run, all-of, every}
+use Rattle.version_language.proofs.Parts.{labelled, preWord, postWord, devWord, local, afterDev, afterPost, afterPre, afterRelease, starred, fromFirst, fromEpoch, fromStart, fromV, released}
+use Rattle.version_language.specs.Appendix.{Regex, none, some, matches, all, one, word, opt, many, _then_, _or_, sign, spaces, separator, number, segment, bounded, pre, post, dev, versionRegex, patternRegex}
 use Rattle.version.specs.Joined.{moreLen, more}
 use Rattle.version.specs.Layout.{vLen, epochLen, segmentLen, localLen, isDot, past, layout, endsAt, hasRelease, isVersionAt, isStarredAt}
 use Rattle.version.specs.Number.{numberLen}
 use Rattle.version.specs.Part.{says, wordLen, sepLen, countLen, partLen, preWords, postWords, devWords, preLen, postLen, devLen}
 use Rattle.version.specs.Rules.{isVersion, isPattern}
 
 taken : (s : List ℕ) (n : ℕ) → n ≤ length s → 0 < n → ltb 0 (length (take n s)) ≡ true
 taken s n room there = rw (length-take-le n s room) (lt-ltb 0 n there)

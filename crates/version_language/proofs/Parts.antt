@@ -6,8 +6,8 @@ use Prim.Native.Nat.{ℕ, _+_, _≤_}
 use native.Mathlib.Omega.{arith}
 use lib.ListN.{length, drop, length-append, length-drop}
 use lib.Seq.{drop-at, drop-drop}
-use Rattle.version.specs.Appendix.{Regex, matches, word, opt, _then_, _or_, many, sign, spaces, separator, number, segment, pre, post, dev}
+use Rattle.version_language.specs.Appendix.{Regex, matches, word, opt, _then_, _or_, many, sign, spaces, separator, number, segment, pre, post, dev}
 use Rattle.version.specs.Layout.{past}
 
 -- a word with the Appendix's separators and number around it
 abbrev pub labelled : Regex → Regex

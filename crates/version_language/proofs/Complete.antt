@@ -14,19 +14,19 @@ use Rattle.text.proofs.Cases.{both}
 use Rattle.text.specs.Class.{isSpace, isDigit, isAlnum, isSeparator}
 use Rattle.text.specs.Scan.{run, skip, byteAt}
 use Rattle.text.specs.Word.{bytes, begins, beginsBy}
-use Rattle.version.proofs.Appendix.Bytes.{Inside, Apart, lettered, Ascii, digit-ascii, space-ascii, separator-ascii, inside}
-use Rattle.version.proofs.Appendix.Front.{separators, pres, release-opens, opens-not, opens-dot}
-use Rattle.version.proofs.Appendix.Greedy.{pre-cut, post-cut, dev-cut}
-use Rattle.version.proofs.Appendix.Matching.{every}
-use Rattle.version.proofs.Appendix.Parts.{local, afterDev, afterPost, afterPre, afterRelease, starred, released, there-or-not, Cut, cut-none, cut-seam, cut-cut, follow}
-use Rattle.version.proofs.Appendix.Release.{EndsRelease, release-there, release-place}
-use Rattle.version.proofs.Appendix.Whole.{run-whole, number-none, segment-whole, segment-there, more-first, joined-whole}
-use Rattle.version.specs.Appendix.{matches, all, _then_, spaces, segment, versionRegex, patternRegex}
+use Rattle.version_language.proofs.Bytes.{Inside, Apart, lettered, Ascii, digit-ascii, space-ascii, separator-ascii, inside}
+use Rattle.version_language.proofs.Front.{separators, pres, release-opens, opens-not, opens-dot}
+use Rattle.version_language.proofs.Greedy.{pre-cut, post-cut, dev-cut}
+use Rattle.version_language.proofs.Matching.{every}
+use Rattle.version_language.proofs.Parts.{local, afterDev, afterPost, afterPre, afterRelease, starred, released, there-or-not, Cut, cut-none, cut-seam, cut-cut, follow}
+use Rattle.version_language.proofs.Release.{EndsRelease, release-there, release-place}
+use Rattle.version_language.proofs.Whole.{run-whole, number-none, segment-whole, segment-there, more-first, joined-whole}
+use Rattle.version_language.specs.Appendix.{matches, all, _then_, spaces, segment, versionRegex, patternRegex}
 use Rattle.version.specs.Joined.{more}
 use Rattle.version.specs.Layout.{segmentLen, localLen, isDot, layout, endsAt, isStarredAt}
 use Rattle.version.specs.Number.{numberLen}
 use Rattle.version.specs.Part.{preLen, postLen, devLen}
 use Rattle.version.specs.Rules.{isVersion, isPattern}
 
 -- whitespace, or the end, is of no other class
 spaces-not : (p : ℕ → Bool) → p 0 ≡ false → Inside isSpace (λ b. not (p b)) → (w : List ℕ) → matches spaces w → p (byteAt w 0) ≡ false
