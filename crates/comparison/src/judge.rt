@@ -42,7 +42,7 @@ pub fn mirrored(op: Operator) -> Operator
 }
 
 // The operator's code, in document 01's order.
-pub fn code_of(op: Operator) -> usize
+pub fn operator_code(op: Operator) -> usize
     ensures { λ r. ⌜ r ≡ operatorCode op ⌝ }
 {
     match op {
@@ -63,19 +63,19 @@ pub fn code_of(op: Operator) -> usize
 fn is_equality(op: Operator) -> bool
     ensures { λ r. ⌜ r ≡ isEquality op ⌝ }
 {
-    code_of(op) <= 1
+    operator_code(op) <= 1
 }
 
 fn is_compatible(op: Operator) -> bool
     ensures { λ r. ⌜ r ≡ isCompatible op ⌝ }
 {
-    code_of(op) == 6
+    operator_code(op) == 6
 }
 
 fn is_list(op: Operator) -> bool
     ensures { λ r. ⌜ r ≡ isList op ⌝ }
 {
-    let code = code_of(op);
+    let code = operator_code(op);
     (7 <= code) & (code <= 8)
 }
 

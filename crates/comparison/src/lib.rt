@@ -8,6 +8,7 @@ mod value;
 pub use found::Found;
 pub use found::find;
 pub use judge::Verdict;
+pub use judge::operator_code;
 pub use kind::Comparison;
 pub use kind::ExtraKind;
 pub use kind::Key;

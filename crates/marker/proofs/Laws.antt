@@ -20,7 +20,8 @@ use Rattle.marker.specs.declared.part.Onward.the-variants.{On, Stop}
 use Rattle.marker.specs.declared.part.Part.{Part}
 use Rattle.marker.specs.declared.part.Part.the-variants.{Read, Refused}
 use Rattle.marker.specs.declared.part.Progress.{Progress}
-use Rattle.marker_code.specs.Code.{sortCode, keyCode, operatorCode}
+use Rattle.comparison.specs.Judge.{operatorCode}
+use Rattle.marker_code.specs.Code.{sortCode, keyCode}
 use Rattle.text.specs.Class.{isSpace, isWordByte}
 use Rattle.text.specs.Cursor.{cursor, spanTo}
 use Rattle.text.specs.Refusal.{span, refusal}

@@ -6,7 +6,8 @@ use Rattle.marker.specs.declared.door.Outcome.{Outcome}
 use Rattle.marker.specs.declared.door.Outcome.the-variants.{Read, Refused}
 use Rattle.marker.specs.declared.lists.Warning.{Warning}
 use Rattle.marker_code.proofs.Own.{sort-own, key-own, operator-own}
-use Rattle.marker_code.specs.Code.{sortCode, keyCode, operatorCode, sortOf, keyOf, operatorOf}
+use Rattle.comparison.specs.Judge.{operatorCode}
+use Rattle.marker_code.specs.Code.{sortCode, keyCode, sortOf, keyOf, operatorOf}
 use Rattle.text.proofs.Numbers.{given-own}
 use Rattle.text.specs.Refusal.{given}
 

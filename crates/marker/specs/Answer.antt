@@ -2,6 +2,7 @@
 use Prim.Native.Nat.{ℕ, _-_}
 use mathlib.Core.List.{List, [], _∷_, _++_}
 use lib.ListN.{length, drop, replicate}
+use Rattle.comparison.specs.Judge.{operatorCode}
 use Rattle.comparison.specs.declared.kind.Comparison.{Comparison}
 use Rattle.comparison.specs.declared.kind.Key.the-variants.{PythonVersion}
 use Rattle.comparison.specs.declared.kind.Operator.the-variants.{Equal}
@@ -13,7 +14,7 @@ use Rattle.marker.specs.declared.door.Outcome.the-variants.{Read, Refuse
 use Rattle.marker.specs.declared.lists.Counts.{Counts}
 use Rattle.marker.specs.declared.lists.Lists.{Lists}
 use Rattle.marker.specs.declared.lists.Warning.{Warning}
-use Rattle.marker_code.specs.Code.{sortCode, keyCode, operatorCode}
+use Rattle.marker_code.specs.Code.{sortCode, keyCode}
 use Rattle.text.specs.Answer.{Answer, good, refused}
 use Rattle.text.specs.Check.{passes}
 use Rattle.text.specs.Refusal.{span, given}

@@ -1,5 +1,6 @@
 -- What has a number is found again by it, so no two share one. Assumes nothing.
 use mathlib.Core.Path.{_≡_, refl}
+use Rattle.comparison.specs.Judge.{operatorCode}
 use Rattle.comparison.specs.declared.kind.ExtraKind.the-variants.{Normal, Arbitrary}
 use Rattle.comparison.specs.declared.kind.Key.{Key}
 use Rattle.comparison.specs.declared.kind.Key.the-variants as Key
@@ -7,7 +8,7 @@ use Rattle.comparison.specs.declared.kind.Operator.{Operator}
 use Rattle.comparison.specs.declared.kind.Operator.the-variants as Operator
 use Rattle.comparison.specs.declared.kind.Sort.{Sort}
 use Rattle.comparison.specs.declared.kind.Sort.the-variants as Sort
-use Rattle.marker_code.specs.Code.{sortCode, keyCode, operatorCode, sortOf, keyOf, operatorOf}
+use Rattle.marker_code.specs.Code.{sortCode, keyCode, sortOf, keyOf, operatorOf}
 
 pub sort-own : (x : Sort) → sortOf (sortCode x) ≡ x
 unfolding sortOf sortCode
@@ -33,7 +34,7 @@ key-own Key.ImplementationName = refl
 key-own Key.Extra = refl
 
 pub operator-own : (x : Operator) → operatorOf (operatorCode x) ≡ x
-unfolding operatorOf operatorCode
+unfolding operatorOf
 operator-own Operator.Equal = refl
 operator-own Operator.NotEqual = refl
 operator-own Operator.Less = refl

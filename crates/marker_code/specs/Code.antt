@@ -1,4 +1,4 @@
--- The numbers of a kept comparison's sort, key and operator, each from 0 in document 01's order.
+-- The numbers of a kept comparison's sort and key, each from 0 in document 01's order; what has a number, and what operator has its `operatorCode`.
 use Prim.Native.Nat.{ℕ}
 use mathlib.Core.List.{List, [], _∷_}
 use lib.ListN.{getD}
@@ -32,20 +32,6 @@ keyCode Key.PlatformMachine = 8
 keyCode Key.PlatformPythonImplementation = 9
 keyCode Key.ImplementationName = 10
 keyCode Key.Extra = 11
-
--- "Known: `== != < <= > >= ~= in`", then `not in`, and "contains" and "not contains", which mirroring gives
-unfoldable pub operatorCode : Operator → ℕ
-operatorCode Operator.Equal = 0
-operatorCode Operator.NotEqual = 1
-operatorCode Operator.Less = 2
-operatorCode Operator.LessEqual = 3
-operatorCode Operator.Greater = 4
-operatorCode Operator.GreaterEqual = 5
-operatorCode Operator.Compatible = 6
-operatorCode Operator.In = 7
-operatorCode Operator.NotIn = 8
-operatorCode Operator.Contains = 9
-operatorCode Operator.NotContains = 10
 
 -- each in the order of its number
 abbrev pub sorts : List Sort

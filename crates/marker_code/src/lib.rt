@@ -1,6 +1,6 @@
-// The numbers by which a kept comparison's sort, key and operator stand in arrays of numbers, and back.
+// The numbers by which a kept comparison's sort, key and operator stand in arrays of numbers, and back. An operator's number is `comparison`'s own.
 ghost use mathlib.Core.Path.{_≡_};
-ghost use Rattle.marker_code.specs.Code.{sortCode, keyCode, operatorCode, sortOf, keyOf, operatorOf};
+ghost use Rattle.marker_code.specs.Code.{sortCode, keyCode, sortOf, keyOf, operatorOf};
 use comparison::ExtraKind;
 use comparison::Key;
 use comparison::Operator;
@@ -36,24 +36,6 @@ pub fn key_code(key: Key) -> usize
         Key::PlatformPythonImplementation => 9,
         Key::ImplementationName => 10,
         Key::Extra => 11,
-    }
-}
-
-pub fn operator_code(operator: Operator) -> usize
-    ensures { λ r. ⌜ r ≡ operatorCode operator ⌝ }
-{
-    match operator {
-        Operator::Equal => 0,
-        Operator::NotEqual => 1,
-        Operator::Less => 2,
-        Operator::LessEqual => 3,
-        Operator::Greater => 4,
-        Operator::GreaterEqual => 5,
-        Operator::Compatible => 6,
-        Operator::In => 7,
-        Operator::NotIn => 8,
-        Operator::Contains => 9,
-        Operator::NotContains => 10,
     }
 }
 

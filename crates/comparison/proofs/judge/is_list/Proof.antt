@@ -6,5 +6,5 @@ pub is-list-spec : {M : Type 1} → statement M
 is-list-spec =
     tie.close
     (tie.spec
-    (λ c κs. search judging)  -- code-of-requires
+    (λ c κs. search judging)  -- operator-code-requires
     (λ c. cc))  -- returns
