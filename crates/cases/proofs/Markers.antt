@@ -20,8 +20,8 @@ use Rattle.version.specs.Part.{wordLen, partLen, postLen}
 use Rattle.version.specs.Reading.{pieces}
 use Rattle.version.specs.Rules.{isVersion, goesWith, allVersions, isVersionList}
 use Rattle.marker.specs.Answer.{markerAnswer}
-use Rattle.marker.specs.Grammar.{keptOf, warnedOf, settled, settle, wordAhead, more, chain, itemAt, itemOf, andOf, orOf, closed, groupAt, ending, parseFrom}
-use Rattle.marker.specs.Marking.{Marking, some, wordsFrom, program}
+use Rattle.marker_steps.specs.Grammar.{keptOf, warnedOf, settled, settle, wordAhead, more, chain, itemAt, itemOf, andOf, orOf, closed, groupAt, ending, parseFrom}
+use Rattle.marker_steps.specs.Marking.{Marking, some, wordsFrom, program}
 
 -- a marker's answer in short: how many comparisons are kept, the warnings' kind and span, the program
 abbrev pub Row : Type 0

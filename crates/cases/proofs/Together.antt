@@ -32,8 +32,8 @@ use Rattle.specifiers.specs.Reading.{bareAt, specifiersAt}
 use Rattle.line_name.specs.Name.{nameAt}
 use Rattle.line_head.specs.Head.{tailAt, wantedAt, textsAt, fromTail, fromWanted, fromExtras, head, textsFrom, extrasOf, textsOf}
 use Rattle.marker.specs.Answer.{markerAnswer}
-use Rattle.marker.specs.Grammar.{keptOf, warnedOf, settled, settle, wordAhead, more, chain, itemAt, itemOf, andOf, orOf, closed, groupAt, ending, parseFrom}
-use Rattle.marker.specs.Marking.{Marking, some, wordsFrom, program}
+use Rattle.marker_steps.specs.Grammar.{keptOf, warnedOf, settled, settle, wordAhead, more, chain, itemAt, itemOf, andOf, orOf, closed, groupAt, ending, parseFrom}
+use Rattle.marker_steps.specs.Marking.{Marking, some, wordsFrom, program}
 use Rattle.line.specs.Line.{Parts, lineParts, lineAnswer}
 use Rattle.line.specs.declared.door.Url.{Url}
 use Rattle.line.specs.declared.door.Url.the-variants.{Absent, At}

@@ -30,7 +30,7 @@ use Rattle.line_head.specs.declared.part.Tail.the-variants as Tail
 use Rattle.line_head.specs.declared.part.Wanted.{Wanted}
 use Rattle.line_head.specs.declared.part.Wanted.the-variants as Wanted
 use Rattle.marker.specs.Answer.{listsOf, told, outcomeOf, listedOf, markerAnswer}
-use Rattle.marker.specs.Marking.{Marking, nothing}
+use Rattle.marker_steps.specs.Marking.{Marking, nothing}
 use Rattle.marker.specs.declared.door.Outcome.{Outcome}
 use Rattle.marker.specs.declared.door.Outcome.the-variants.{Read, Refused}
 use Rattle.marker.specs.declared.lists.Lists.{Lists}

@@ -26,11 +26,12 @@ use Rattle.line_head.specs.declared.part.HeadRead.{HeadRead}
 use Rattle.line_head.specs.declared.part.HeadRead.the-variants as HeadRead
 use Rattle.line_head.specs.declared.part.Tail.the-variants.{End, Marker}
 use Rattle.line_head.specs.declared.part.Wanted.{Wanted}
-use Rattle.marker.specs.Answer.{told, outcomeOf, markerAnswer, listedOf, countsOf, allNumbers, comparisonsAs, warningsAs, onto}
-use Rattle.marker.specs.Marking.{Marking, nothing}
+use Rattle.marker.specs.Answer.{told, outcomeOf, markerAnswer, listedOf, countsOf}
+use Rattle.marker_steps.specs.Arrays.{allNumbers, comparisonsAs, warningsAs, onto}
+use Rattle.marker_steps.specs.Marking.{Marking, nothing}
 use Rattle.marker.specs.declared.door.Outcome.{Outcome}
 use Rattle.marker.specs.declared.door.Outcome.the-variants.{Read, Refused}
-use Rattle.marker.specs.declared.lists.Counts as C
+use Rattle.marker_steps.specs.declared.part.Counts as C
 use Rattle.line.specs.Figures.{Buffers, figuresOf, buffers, written}
 use Rattle.line.specs.Line.{Parts, unmarked, urlOf, partsOf, marked, lineParts, lineAnswer, empty, shown}
 use Rattle.line.specs.Ready.{Ready}

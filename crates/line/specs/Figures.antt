@@ -3,7 +3,8 @@ use Prim.Native.Nat.{ℕ}
 use mathlib.Core.List.{List}
 use lib.ListN.{length}
 use Rattle.spans.specs.Flat.{over}
-use Rattle.marker.specs.Answer.{countsOf, comparisonsAs, warningsAs, onto}
+use Rattle.marker.specs.Answer.{countsOf}
+use Rattle.marker_steps.specs.Arrays.{comparisonsAs, warningsAs, onto}
 use Rattle.line.specs.Line.{Parts}
 use Rattle.line.specs.declared.quick.Figures.{Figures}
 

@@ -15,7 +15,7 @@ use Rattle.line_head.specs.declared.part.Tail.the-variants as Tail
 use Rattle.line_head.specs.declared.part.Wanted.{Wanted}
 use Rattle.line_head.specs.declared.part.Wanted.the-variants as Wanted
 use Rattle.marker.specs.Answer.{markerAnswer, listsOf}
-use Rattle.marker.specs.Marking.{Marking, nothing}
+use Rattle.marker_steps.specs.Marking.{Marking, nothing}
 use Rattle.marker.specs.declared.door.Outcome.{Outcome}
 use Rattle.line.specs.declared.door.Requirement.{Requirement}
 use Rattle.line.specs.declared.door.SpanList.{SpanList}

@@ -4,12 +4,12 @@ use mathlib.Core.Bool.{Bool, true, _||_}
 use Prim.Native.Nat.{ℕ, zero, suc, _+_, _-_, _<_, _≤_}
 use native.Mathlib.Omega.{arith}
 use Rattle.marker.proofs.Emit.{nk, nw, emit-kept, emit-warned, room-after, spare-after}
-use Rattle.marker.specs.Grammar.{Tree, Parsed, got, fault, andThen, Ahead, on, off, more, chain}
-use Rattle.marker.specs.Marking.{some}
-use Rattle.marker.specs.Steps.{Raw, State, Room, Spare, stateOf, emit, joining, joined, onward, onwardAt}
-use Rattle.marker.specs.declared.part.Onward.the-variants.{On, Stop}
-use Rattle.marker.specs.declared.part.Part.{Part}
-use Rattle.marker.specs.declared.part.Part.the-variants.{Read, Refused}
+use Rattle.marker_steps.specs.Grammar.{Tree, Parsed, got, fault, andThen, Ahead, on, off, more, chain}
+use Rattle.marker_steps.specs.Marking.{some}
+use Rattle.marker_steps.specs.Steps.{Raw, State, Room, Spare, stateOf, emit, joining, joined, onward, onwardAt}
+use Rattle.marker_steps.specs.declared.part.Onward.the-variants.{On, Stop}
+use Rattle.marker_steps.specs.declared.part.Part.{Part}
+use Rattle.marker_steps.specs.declared.part.Part.the-variants.{Read, Refused}
 use Rattle.text.specs.Cursor.{cursor}
 use Rattle.text.specs.declared.cursor.Cursor.{Cursor}
 use Rattle.text.specs.declared.refusal.Refusal.{Refusal}

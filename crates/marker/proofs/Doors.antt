@@ -3,10 +3,10 @@ use mathlib.Core.Path.{_≡_, refl, ap, _∙_}
 use mathlib.Core.List.{List}
 use Prim.Native.Nat.{ℕ}
 use Rattle.marker.specs.Answer.{answered, markerAnswer, outcomeOf, listedOf, told, listsOf}
-use Rattle.marker.specs.Grammar.{Parsed, got, fault, parseFrom}
-use Rattle.marker.specs.Marking.{Marking, nothing}
 use Rattle.marker.specs.Store.{markerOf}
 use Rattle.marker.specs.declared.door.Marker.{Marker}
+use Rattle.marker_steps.specs.Grammar.{Parsed, got, fault, parseFrom}
+use Rattle.marker_steps.specs.Marking.{Marking, nothing}
 use Rattle.text.proofs.Checks.{checked-refused, checked-good}
 use Rattle.text.specs.Answer.{Answer}
 use Rattle.text.specs.Check.{checked, passes}

@@ -15,7 +15,7 @@ use Rattle.marker.proofs.Chain.{more-stop, more-on, chain-ind}
 use Rattle.marker.proofs.Emit.{nk, nw}
 use Rattle.marker.proofs.Items.{by-test, word-sane, item-ind}
 use Rattle.marker.specs.Fuel.{andBy, orBy, groupBy, parseBy}
-use Rattle.marker.specs.Grammar.{Tree, both, either, keptIn, warnedIn, Parsed, got, fault, andThen, settled, settle, Ahead, on, off, wordAhead, andWord, orWord, more, chain, itemOf, andOf, orOf, closed, groupAt, ending, parseFrom}
+use Rattle.marker_steps.specs.Grammar.{Tree, both, either, keptIn, warnedIn, Parsed, got, fault, andThen, settled, settle, Ahead, on, off, wordAhead, andWord, orWord, more, chain, itemOf, andOf, orOf, closed, groupAt, ending, parseFrom}
 use Rattle.text.proofs.Reach.{skip-from}
 use Rattle.text.specs.Class.{isSpace}
 use Rattle.text.specs.Scan.{skip, byteAt}

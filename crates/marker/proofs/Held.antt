@@ -11,11 +11,11 @@ use Rattle.comparison.specs.declared.judge.Verdict.{Verdict}
 use Rattle.comparison.specs.declared.judge.Verdict.the-variants.{Kept, KeptWarned, Ignored, IgnoredTwice}
 use Rattle.comparison.specs.declared.kind.Comparison.{Comparison}
 use Rattle.marker.proofs.Emit.{nk, nw, one}
-use Rattle.marker.specs.Answer.{pad, comparisonNumbers, warningNumbers, allNumbers}
-use Rattle.marker.specs.Grammar.{Tree, compared, both, either, group, keptIn, warnedIn, warningOf, keptOf, warnedOf}
-use Rattle.marker.specs.Marking.{isKept, some, push, joint, wordsFrom}
-use Rattle.marker.specs.Steps.{Raw, rawOf, putComparison, putWarning, keeping, warning, pushed, joining, taking, emit}
-use Rattle.marker.specs.declared.lists.Warning.{Warning}
+use Rattle.marker_steps.specs.Arrays.{pad, comparisonNumbers, warningNumbers, allNumbers}
+use Rattle.marker_steps.specs.Grammar.{Tree, compared, both, either, group, keptIn, warnedIn, warningOf, keptOf, warnedOf}
+use Rattle.marker_steps.specs.Marking.{isKept, some, push, joint, wordsFrom}
+use Rattle.marker_steps.specs.Steps.{Raw, rawOf, putComparison, putWarning, keeping, warning, pushed, joining, taking, emit}
+use Rattle.marker_steps.specs.declared.warning.Warning.{Warning}
 use Rattle.text.specs.declared.refusal.Span.{Span}
 
 -- the arrays that hold three lists

@@ -5,7 +5,6 @@ mod Emit
 pub mod Fuel
 mod Held
 mod Items
-mod Laws
 pub mod Meaning
 pub mod Numbered
 pub mod Own

@@ -18,9 +18,9 @@ use Rattle.marker.proofs.Emit.{nk, nw}
 use Rattle.marker.proofs.Items.{by-test, item-ind}
 use Rattle.marker.proofs.Whole.{program-short, parse-sane}
 use Rattle.marker.specs.Answer.{answered, markerAnswer}
-use Rattle.marker.specs.Grammar.{Tree, compared, both, either, group, keptIn, warnedIn, keptOf, Parsed, got, fault, settled, settle, Ahead, on, wordAhead, andWord, orWord, chain, itemOf, andOf, orOf, closed, groupAt, ending, parseFrom}
-use Rattle.marker.specs.Marking.{isKept, some, push, joint, wordsFrom, program, Marking, marking}
 use Rattle.marker.specs.Value.{Left, none, left, meet, leftIn, leftOf, orYes, madeOf, valueOf, growing, treeFor}
+use Rattle.marker_steps.specs.Grammar.{Tree, compared, both, either, group, keptIn, warnedIn, keptOf, Parsed, got, fault, settled, settle, Ahead, on, wordAhead, andWord, orWord, chain, itemOf, andOf, orOf, closed, groupAt, ending, parseFrom}
+use Rattle.marker_steps.specs.Marking.{isKept, some, push, joint, wordsFrom, program, Marking, marking}
 use Rattle.program.proofs.Meaning.{within-passes, within-ran}
 use Rattle.program.specs.Check.{checkedProgram}
 use Rattle.program.specs.Run.{bit, ran}

@@ -13,9 +13,9 @@ use Rattle.marker.proofs.Emit.{nk, one}
 use Rattle.marker.proofs.Held.{words-count}
 use Rattle.marker.proofs.Meaning.{kept-few}
 use Rattle.marker.proofs.Whole.{none-words}
-use Rattle.marker.specs.Grammar.{Tree, compared, both, either, group, keptIn, keptOf, got, parseFrom}
-use Rattle.marker.specs.Marking.{some, push, joint, wordsFrom, program}
 use Rattle.marker.specs.Numbers.{pushesIn}
+use Rattle.marker_steps.specs.Grammar.{Tree, compared, both, either, group, keptIn, keptOf, got, parseFrom}
+use Rattle.marker_steps.specs.Marking.{some, push, joint, wordsFrom, program}
 use Rattle.program.specs.Check.{places}
 
 pushes-append : (a b : List ℕ) → pushesIn (a ++ b) ≡ pushesIn a ++ pushesIn b

@@ -1,13 +1,14 @@
 -- What the doors promise leaves one answer: no two outcomes are told alike, and no two comparisons or warnings have the same numbers. Assumes nothing.
 use mathlib.Core.Path.{_≡_, refl, sym, ap, _∙_}
+use Rattle.comparison.specs.Judge.{operatorCode}
 use Rattle.comparison.specs.declared.kind.Comparison.{Comparison}
-use Rattle.marker.specs.Answer.{told, comparisonNumbers, warningNumbers}
+use Rattle.marker.specs.Answer.{told}
 use Rattle.marker.specs.declared.door.Outcome.{Outcome}
 use Rattle.marker.specs.declared.door.Outcome.the-variants.{Read, Refused}
-use Rattle.marker.specs.declared.lists.Warning.{Warning}
 use Rattle.marker_code.proofs.Own.{sort-own, key-own, operator-own}
-use Rattle.comparison.specs.Judge.{operatorCode}
 use Rattle.marker_code.specs.Code.{sortCode, keyCode, sortOf, keyOf, operatorOf}
+use Rattle.marker_steps.specs.Arrays.{comparisonNumbers, warningNumbers}
+use Rattle.marker_steps.specs.declared.warning.Warning.{Warning}
 use Rattle.text.proofs.Numbers.{given-own}
 use Rattle.text.specs.Refusal.{given}
 

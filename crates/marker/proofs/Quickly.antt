@@ -8,17 +8,18 @@ use lib.ListN.{length, take, drop, replicate, length-append, length-replicate}
 use lib.Seq.{take-at}
 use Rattle.marker.proofs.Chain.{Sane}
 use Rattle.marker.proofs.Held.{numbers-length}
-use Rattle.marker.proofs.Laws.{live}
 use Rattle.marker.proofs.Whole.{parse-sane, program-short}
-use Rattle.marker.specs.Answer.{answered, markerAnswer, outcomeOf, listedOf, countsOf, pad, allNumbers, comparisonNumbers, warningNumbers, comparisonsAs, warningsAs, onto}
-use Rattle.marker.specs.Grammar.{Parsed, got, fault, parseFrom}
-use Rattle.marker.specs.Marking.{Marking, marking, nothing}
-use Rattle.marker.specs.Steps.{Raw, rawOf, State, viewOf, shows, wholeOf}
+use Rattle.marker.specs.Answer.{answered, markerAnswer, outcomeOf, listedOf, countsOf}
 use Rattle.marker.specs.declared.door.Outcome.{Outcome}
 use Rattle.marker.specs.declared.door.Outcome.the-variants as Outcome
-use Rattle.marker.specs.declared.lists.Counts.{Counts}
-use Rattle.marker.specs.declared.part.Part.the-variants.{Read, Refused}
-use Rattle.marker.specs.declared.part.Progress.{Progress}
+use Rattle.marker_steps.proofs.Laws.{live}
+use Rattle.marker_steps.specs.Arrays.{pad, allNumbers, comparisonNumbers, warningNumbers, comparisonsAs, warningsAs, onto}
+use Rattle.marker_steps.specs.Grammar.{Parsed, got, fault, parseFrom}
+use Rattle.marker_steps.specs.Marking.{Marking, marking, nothing}
+use Rattle.marker_steps.specs.Steps.{Raw, rawOf, State, viewOf, shows, wholeOf}
+use Rattle.marker_steps.specs.declared.part.Counts.{Counts}
+use Rattle.marker_steps.specs.declared.part.Part.the-variants.{Read, Refused}
+use Rattle.marker_steps.specs.declared.part.Progress.{Progress}
 use Rattle.text.specs.Answer.{Answer, good}
 use Rattle.text.specs.Check.{passes}
 use Rattle.text.specs.Refusal.{given}

@@ -8,21 +8,22 @@ use native.Mathlib.Omega.{arith}
 use lib.ListN.{length, getD, set, take, replicate, length-append}
 use lib.Seq.{take-suc, take-length}
 use Rattle.comparison.specs.declared.kind.Comparison.{Comparison}
-use Rattle.marker.proofs.Laws.{live}
 use Rattle.marker.proofs.Held.{pad-set}
-use Rattle.marker.specs.Answer.{pad, noComparison, noWarning, listsOf, comparisonNumbers, warningNumbers, allNumbers}
-use Rattle.marker.specs.Grammar.{Parsed, got, fault}
-use Rattle.marker.specs.Marking.{Marking, marking, nothing}
-use Rattle.marker.specs.Steps.{Raw, rawOf, State, viewOf, shows, wholeOf}
+use Rattle.marker.specs.Answer.{noComparison, noWarning, listsOf}
 use Rattle.marker.specs.Store.{comparisonIn, warningIn, upTo, gathered, markerOf}
 use Rattle.marker.specs.declared.door.Marker.{Marker}
 use Rattle.marker.specs.declared.door.Outcome.the-variants as Outcome
-use Rattle.marker.specs.declared.lists.Counts.{Counts}
 use Rattle.marker.specs.declared.lists.Lists.{Lists}
-use Rattle.marker.specs.declared.lists.Warning.{Warning}
-use Rattle.marker.specs.declared.part.Part.the-variants.{Read, Refused}
-use Rattle.marker.specs.declared.part.Progress.{Progress}
 use Rattle.marker_code.proofs.Own.{sort-own, key-own, operator-own}
+use Rattle.marker_steps.proofs.Laws.{live}
+use Rattle.marker_steps.specs.Arrays.{pad, comparisonNumbers, warningNumbers, allNumbers}
+use Rattle.marker_steps.specs.Grammar.{Parsed, got, fault}
+use Rattle.marker_steps.specs.Marking.{Marking, marking, nothing}
+use Rattle.marker_steps.specs.Steps.{Raw, rawOf, State, viewOf, shows, wholeOf}
+use Rattle.marker_steps.specs.declared.part.Counts.{Counts}
+use Rattle.marker_steps.specs.declared.part.Part.the-variants.{Read, Refused}
+use Rattle.marker_steps.specs.declared.part.Progress.{Progress}
+use Rattle.marker_steps.specs.declared.warning.Warning.{Warning}
 use Rattle.text.specs.declared.cursor.Cursor.{Cursor}
 use Rattle.text.specs.declared.refusal.Refusal.{Refusal}
 

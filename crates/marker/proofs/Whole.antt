@@ -10,15 +10,15 @@ use Rattle.comparison.specs.declared.judge.Verdict.{Verdict}
 use Rattle.comparison.specs.declared.judge.Verdict.the-variants.{Kept, KeptWarned, Ignored, IgnoredTwice}
 use Rattle.marker.proofs.Chain.{Sane}
 use Rattle.marker.proofs.Emit.{nk, one, emit-count}
-use Rattle.marker.proofs.Items.{by-test, or-sane, group-sane}
-use Rattle.marker.proofs.Laws.{live}
 use Rattle.marker.proofs.Held.{emit-reads, push-reads, words-count}
-use Rattle.marker.specs.Answer.{allNumbers}
-use Rattle.marker.specs.Grammar.{Tree, compared, both, either, group, keptOf, warnedOf, Parsed, got, fault, orOf, groupAt, ending, parseFrom}
-use Rattle.marker.specs.Marking.{isKept, some, push, wordsFrom, program, nothing}
-use Rattle.marker.specs.Steps.{Raw, rawOf, State, viewOf, shows, emit, pushed, stopped, readTo, stateOf, wholeOf, Spare, Fits, finished}
-use Rattle.marker.specs.declared.part.Part.the-variants.{Read, Refused}
-use Rattle.marker.specs.declared.part.Progress.{Progress}
+use Rattle.marker.proofs.Items.{by-test, or-sane, group-sane}
+use Rattle.marker_steps.proofs.Laws.{live}
+use Rattle.marker_steps.specs.Arrays.{allNumbers}
+use Rattle.marker_steps.specs.Grammar.{Tree, compared, both, either, group, keptOf, warnedOf, Parsed, got, fault, orOf, groupAt, ending, parseFrom}
+use Rattle.marker_steps.specs.Marking.{isKept, some, push, wordsFrom, program, nothing}
+use Rattle.marker_steps.specs.Steps.{Raw, rawOf, State, viewOf, shows, emit, pushed, stopped, readTo, stateOf, wholeOf, Spare, Fits, finished}
+use Rattle.marker_steps.specs.declared.part.Part.the-variants.{Read, Refused}
+use Rattle.marker_steps.specs.declared.part.Progress.{Progress}
 use Rattle.text.specs.Class.{isSpace}
 use Rattle.text.specs.Cursor.{cursor}
 use Rattle.text.specs.Refusal.{refusal}

@@ -1,20 +1,19 @@
 -- What the doors answer, and what the arrays hold afterwards.
-use Prim.Native.Nat.{ℕ, _-_}
-use mathlib.Core.List.{List, [], _∷_, _++_}
-use lib.ListN.{length, drop, replicate}
-use Rattle.comparison.specs.Judge.{operatorCode}
+use Prim.Native.Nat.{ℕ}
+use mathlib.Core.List.{List}
+use lib.ListN.{length}
 use Rattle.comparison.specs.declared.kind.Comparison.{Comparison}
 use Rattle.comparison.specs.declared.kind.Key.the-variants.{PythonVersion}
 use Rattle.comparison.specs.declared.kind.Operator.the-variants.{Equal}
 use Rattle.comparison.specs.declared.kind.Sort.the-variants.{Version}
-use Rattle.marker.specs.Grammar.{Parsed, got, fault, warningOf, parseFrom}
-use Rattle.marker.specs.Marking.{Marking, marking, nothing}
 use Rattle.marker.specs.declared.door.Outcome.{Outcome}
 use Rattle.marker.specs.declared.door.Outcome.the-variants.{Read, Refused}
-use Rattle.marker.specs.declared.lists.Counts.{Counts}
 use Rattle.marker.specs.declared.lists.Lists.{Lists}
-use Rattle.marker.specs.declared.lists.Warning.{Warning}
-use Rattle.marker_code.specs.Code.{sortCode, keyCode}
+use Rattle.marker_steps.specs.Arrays.{pad}
+use Rattle.marker_steps.specs.Grammar.{Parsed, got, fault, warningOf, parseFrom}
+use Rattle.marker_steps.specs.Marking.{Marking, marking, nothing}
+use Rattle.marker_steps.specs.declared.part.Counts.{Counts}
+use Rattle.marker_steps.specs.declared.warning.Warning.{Warning}
 use Rattle.text.specs.Answer.{Answer, good, refused}
 use Rattle.text.specs.Check.{passes}
 use Rattle.text.specs.Refusal.{span, given}
@@ -44,10 +43,7 @@ told (Refused why) = given why
 abbrev pub countsOf : Marking → Counts
 countsOf m = record { kept = length (m .comparisons); warned = length (m .warnings); words = length (m .words) }
 
--- The typed door: each list in an array of n, with filler behind it.
-abbrev pub pad {ℓ} : {A : Type ℓ} → ℕ → A → List A → List A
-pad n d xs = xs ++ replicate (n - length xs) d
-
+-- The typed door: each list in an array, with filler behind it.
 abbrev pub noComparison : Comparison
 noComparison = record { sort = Version; key = PythonVersion; operator = Equal; literal = span 0 0 }
 
@@ -61,24 +57,3 @@ listsOf m = record {
   words = pad 127 0 (m .words);
   counts = countsOf m;
 }
-
--- The quick door: five numbers for each comparison (sort, key, operator, where its literal starts and how long that is), three for each warning
--- (kind, where its span starts and how long that is), each word as it is; the rest of each array stays as it was.
-abbrev pub comparisonNumbers : Comparison → List ℕ
-comparisonNumbers c = sortCode (c .sort) ∷ keyCode (c .key) ∷ operatorCode (c .operator) ∷ c .literal .start .0 ∷ c .literal .len ∷ []
-
-abbrev pub warningNumbers : Warning → List ℕ
-warningNumbers w = w .kind ∷ w .span .start .0 ∷ w .span .len ∷ []
-
-unfoldable pub allNumbers : {A : Type 0} → (A → List ℕ) → List A → List ℕ
-allNumbers f [] = []
-allNumbers f (x ∷ xs) = f x ++ allNumbers f xs
-
-abbrev pub comparisonsAs : Marking → List ℕ
-comparisonsAs m = allNumbers comparisonNumbers (m .comparisons)
-
-abbrev pub warningsAs : Marking → List ℕ
-warningsAs m = allNumbers warningNumbers (m .warnings)
-
-abbrev pub onto : List ℕ → List ℕ → List ℕ
-onto xs old = xs ++ drop (length xs) old

@@ -1,7 +1,7 @@
 -- The grammar with any bound f on the joints of a chain, for the theorem that the bound never shows.
 use Prim.Native.Nat.{ℕ, zero, suc, _+_}
 use mathlib.Core.List.{List}
-use Rattle.marker.specs.Grammar.{both, either, Parsed, fault, wordAhead, andWord, orWord, chain, itemOf, closed, ending}
+use Rattle.marker_steps.specs.Grammar.{both, either, Parsed, fault, wordAhead, andWord, orWord, chain, itemOf, closed, ending}
 use Rattle.text.specs.Refusal.{refusal}
 use Rattle.text.specs.declared.refusal.Fault.the-variants.{TooDeep}
 

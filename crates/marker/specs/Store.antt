@@ -3,15 +3,16 @@ use Prim.Native.Nat.{ℕ, zero, suc, _+_, _*_}
 use mathlib.Core.List.{List, [], _∷_, _++_}
 use lib.ListN.{getD}
 use Rattle.comparison.specs.declared.kind.Comparison.{Comparison}
-use Rattle.marker.specs.Answer.{pad, noComparison, noWarning, listsOf}
-use Rattle.marker.specs.Grammar.{Parsed, got, fault, warningOf}
-use Rattle.marker.specs.Marking.{marking, nothing}
+use Rattle.marker.specs.Answer.{noComparison, noWarning, listsOf}
 use Rattle.marker.specs.declared.door.Marker.{Marker}
 use Rattle.marker.specs.declared.door.Outcome.the-variants.{Read, Refused}
-use Rattle.marker.specs.declared.lists.Counts.{Counts}
 use Rattle.marker.specs.declared.lists.Lists.{Lists}
-use Rattle.marker.specs.declared.lists.Warning.{Warning}
 use Rattle.marker_code.specs.Code.{sortOf, keyOf, operatorOf}
+use Rattle.marker_steps.specs.Arrays.{pad}
+use Rattle.marker_steps.specs.Grammar.{Parsed, got, fault, warningOf}
+use Rattle.marker_steps.specs.Marking.{marking, nothing}
+use Rattle.marker_steps.specs.declared.part.Counts.{Counts}
+use Rattle.marker_steps.specs.declared.warning.Warning.{Warning}
 use Rattle.text.specs.Refusal.{span}
 
 -- the n-th comparison and the n-th warning, from their numbers

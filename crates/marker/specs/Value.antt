@@ -4,7 +4,7 @@ use mathlib.Core.Bool.{Bool}
 use lib.ListN.{length}
 use Rattle.comparison.specs.declared.judge.Verdict.{Verdict}
 use Rattle.comparison.specs.declared.judge.Verdict.the-variants.{Kept, KeptWarned, Ignored, IgnoredTwice}
-use Rattle.marker.specs.Grammar.{Tree, compared, both, either, group, keptOf}
+use Rattle.marker_steps.specs.Grammar.{Tree, compared, both, either, group, keptOf}
 use Rattle.program.specs.Tree as Program
 use Rattle.program.specs.Tree.{Reading, saying, leaf, leafYes, and, or}
 

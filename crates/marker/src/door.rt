@@ -1,16 +1,16 @@
 // The typed door: what was read by value, for callers in Rattle.
 ghost use mathlib.Core.Path.{_≡_};
 ghost use Rattle.marker.specs.Answer.{markerAnswer, outcomeOf, listedOf, told, listsOf};
-ghost use Rattle.marker.specs.Grammar.{Parsed, fault};
-ghost use Rattle.marker.specs.Steps.{shows, wholeOf, Fits};
 ghost use Rattle.marker.specs.Store.{markerOf};
+ghost use Rattle.marker_steps.specs.Grammar.{Parsed, fault};
+ghost use Rattle.marker_steps.specs.Steps.{shows, wholeOf, Fits};
 ghost use Rattle.text.specs.Check.{checked};
 use crate::cycle::read_from;
 use crate::lists::Lists;
 use crate::lists::empty_lists;
 use crate::lists::gather;
-use crate::part::Part;
-use crate::part::Progress;
+use marker_steps::Part;
+use marker_steps::Progress;
 use text::Checked;
 use text::Cursor;
 use text::Refusal;

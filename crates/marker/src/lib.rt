@@ -2,19 +2,17 @@
 mod cycle;
 mod door;
 mod lists;
-mod part;
+mod load;
 mod quick;
-mod step;
-mod store;
 
 pub use door::Marker;
 pub use door::Outcome;
 pub use door::read_marker;
 pub use door::read_marker_from;
-pub use lists::Counts;
 pub use lists::Lists;
-pub use lists::Warning;
 pub use lists::empty_lists;
+pub use marker_steps::Counts;
+pub use marker_steps::Warning;
 pub use quick::Quick;
 pub use quick::read_quick;
 pub use quick::read_quick_from;

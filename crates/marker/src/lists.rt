@@ -1,30 +1,20 @@
 // What is read of a marker, as typed lists in arrays.
 ghost use mathlib.Core.Path.{_≡_};
 ghost use Prim.Native.Nat.{_≤_};
-ghost use Rattle.marker.specs.Answer.{pad, noComparison, noWarning, listsOf};
-ghost use Rattle.marker.specs.Marking.{nothing};
+ghost use Rattle.marker.specs.Answer.{noComparison, noWarning, listsOf};
 ghost use Rattle.marker.specs.Store.{comparisonIn, warningIn, upTo, gathered};
-use crate::store::load_comparison;
-use crate::store::load_warning;
+ghost use Rattle.marker_steps.specs.Arrays.{pad};
+ghost use Rattle.marker_steps.specs.Marking.{nothing};
+use crate::load::load_comparison;
+use crate::load::load_warning;
 use comparison::Comparison;
 use comparison::Key;
 use comparison::Operator;
 use comparison::Sort;
+use marker_steps::Counts;
+use marker_steps::Warning;
 use text::Offset;
 use text::Span;
-
-// The kind is document 01's number, 1 to 5.
-pub struct Warning {
-    pub kind: usize,
-    pub span: Span,
-}
-
-// How many comparisons were kept, how many warnings were given, how many words the program has.
-pub struct Counts {
-    pub kept: usize,
-    pub warned: usize,
-    pub words: usize,
-}
 
 // Each array holds as many entries as its count says, and filler behind them.
 pub struct Lists {

@@ -11,7 +11,7 @@ use borrow.Fn.PlainCycle.{Measures, is, falls, and}
 use Rattle.comparison.proofs.find.Reads as find-reads
 use Rattle.marker.proofs.Chain.{Held, togo, going-starts, going-stops, turns, turn-room, turn-spare, turn-again, turn-less}
 use Rattle.marker.proofs.Items.{joins-both, joins-either, word-sane, item-sane, and-sane, group-sane, item-group, item-found, group-deep, group-state}
-use Rattle.marker.proofs.Laws.{room-of, right-of, inside-of, slack-of, shows-refused}
+use Rattle.marker_steps.proofs.Laws.{room-of, right-of, inside-of, slack-of, shows-refused}
 use Rattle.marker.proofs.cycle.and_chain.Reads as and-chain
 use Rattle.marker.proofs.cycle.and_chain.Kinds as and-chain-kinds
 use Rattle.marker.proofs.cycle.+and_chain+comparison_or_group+or_chain.Lts-and_chain as and-chain-lts
@@ -23,15 +23,15 @@ use Rattle.marker.proofs.cycle.or_chain.Kinds as or-chain-kinds
 use Rattle.marker.proofs.cycle.+and_chain+comparison_or_group+or_chain.Lts-or_chain as or-chain-lts
 use Rattle.marker.proofs.cycle.+and_chain+comparison_or_group+or_chain.{statement}
 use Rattle.marker.proofs.cycle.+and_chain+comparison_or_group+or_chain.Tie.{close}
-use Rattle.marker.proofs.part.refused.Reads as refused-reads
-use Rattle.marker.proofs.step.ahead_and.Reads as ahead-and-reads
-use Rattle.marker.proofs.step.ahead_or.Reads as ahead-or-reads
-use Rattle.marker.proofs.step.close.Reads as close-reads
-use Rattle.marker.proofs.step.join.Reads as join-reads
-use Rattle.marker.proofs.step.take_in.Reads as take-in-reads
-use Rattle.marker.specs.Grammar.{Parsed, both, either, wordAhead, andWord, orWord, itemOf, andOf, orOf, groupAt}
-use Rattle.marker.specs.Steps.{shows, stateOf}
-use Rattle.marker.specs.declared.part.Part.the-variants.{Refused}
+use Rattle.marker_steps.proofs.refused.Reads as refused-reads
+use Rattle.marker_steps.proofs.ahead_and.Reads as ahead-and-reads
+use Rattle.marker_steps.proofs.ahead_or.Reads as ahead-or-reads
+use Rattle.marker_steps.proofs.close.Reads as close-reads
+use Rattle.marker_steps.proofs.join.Reads as join-reads
+use Rattle.marker_steps.proofs.take_in.Reads as take-in-reads
+use Rattle.marker_steps.specs.Grammar.{Parsed, both, either, wordAhead, andWord, orWord, itemOf, andOf, orOf, groupAt}
+use Rattle.marker_steps.specs.Steps.{shows, stateOf}
+use Rattle.marker_steps.specs.declared.part.Part.the-variants.{Refused}
 use Rattle.text.proofs.Places.{places}
 use Rattle.text.proofs.cursor.Cursor.skip_whitespace.Reads as skip-whitespace-reads
 use Rattle.text.proofs.has.Reads as has-reads

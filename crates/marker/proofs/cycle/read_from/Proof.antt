@@ -1,5 +1,5 @@
 use native.Mathlib.Omega.{arith}
-use Rattle.marker.proofs.Laws.{slack-of}
+use Rattle.marker_steps.proofs.Laws.{slack-of}
 use Rattle.marker.proofs.Whole.{line-spare, line-state, whole-state}
 use Rattle.marker.proofs.cycle.read_from.Statement.{statement}
 use Rattle.marker.proofs.cycle.read_from.Tie as tie

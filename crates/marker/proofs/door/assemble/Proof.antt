@@ -1,5 +1,5 @@
 use Rattle.marker.proofs.Typed.{assembled-refused, assembled-read}
-use Rattle.marker.specs.Steps.{Fits}
+use Rattle.marker_steps.specs.Steps.{Fits}
 use borrow.Author.Needs.{needs}
 use Rattle.marker.proofs.door.assemble.Statement.{statement}
 use Rattle.marker.proofs.door.assemble.Tie as tie

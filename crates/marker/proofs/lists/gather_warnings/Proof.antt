@@ -3,7 +3,8 @@ use Prim.Native.Nat.{_≤_, _-_}
 use native.Mathlib.Omega.{arith}
 use borrow.Author.Needs.{needs}
 use Rattle.marker.proofs.Typed.{loading, load-start, end-loaded}
-use Rattle.marker.specs.Answer.{pad, noWarning}
+use Rattle.marker.specs.Answer.{noWarning}
+use Rattle.marker_steps.specs.Arrays.{pad}
 use Rattle.marker.specs.Store.{warningIn, upTo}
 use Rattle.marker.proofs.lists.gather_warnings.Statement.{statement}
 use Rattle.marker.proofs.lists.gather_warnings.Tie as tie

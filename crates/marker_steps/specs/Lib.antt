@@ -1,0 +1,4 @@
+pub mod Arrays
+pub mod Grammar
+pub mod Marking
+pub mod Steps
