@@ -11,10 +11,10 @@ use Rattle.comparison.proofs.Further.{found-further}
 use Rattle.comparison.specs.Found.{foundAt}
 use Rattle.comparison.specs.declared.found.Found.{Found}
 use Rattle.comparison.specs.declared.found.Found.the-variants as Found
-use Rattle.marker.proofs.Chain.{more-stop, more-on, chain-ind}
-use Rattle.marker.proofs.Emit.{nk, nw}
-use Rattle.marker.proofs.Items.{by-test, word-sane, item-ind}
 use Rattle.marker.specs.Fuel.{andBy, orBy, groupBy, parseBy}
+use Rattle.marker_cycle.proofs.Chain.{more-stop, more-on, chain-ind}
+use Rattle.marker_cycle.proofs.Emit.{nk, nw}
+use Rattle.marker_cycle.proofs.Items.{by-test, word-sane, item-ind}
 use Rattle.marker_steps.specs.Grammar.{Tree, both, either, keptIn, warnedIn, Parsed, got, fault, andThen, settled, settle, Ahead, on, off, wordAhead, andWord, orWord, more, chain, itemOf, andOf, orOf, closed, groupAt, ending, parseFrom}
 use Rattle.text.proofs.Reach.{skip-from}
 use Rattle.text.specs.Class.{isSpace}

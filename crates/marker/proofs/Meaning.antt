@@ -13,12 +13,12 @@ use Rattle.comparison.specs.declared.found.Found.{Found}
 use Rattle.comparison.specs.declared.found.Found.the-variants as Found
 use Rattle.comparison.specs.declared.judge.Verdict.{Verdict}
 use Rattle.comparison.specs.declared.judge.Verdict.the-variants.{Kept, KeptWarned, Ignored, IgnoredTwice}
-use Rattle.marker.proofs.Chain.{Sane, chain-ind}
-use Rattle.marker.proofs.Emit.{nk, nw}
-use Rattle.marker.proofs.Items.{by-test, item-ind}
-use Rattle.marker.proofs.Whole.{program-short, parse-sane}
 use Rattle.marker.specs.Answer.{answered, markerAnswer}
 use Rattle.marker.specs.Value.{Left, none, left, meet, leftIn, leftOf, orYes, madeOf, valueOf, growing, treeFor}
+use Rattle.marker_cycle.proofs.Chain.{Sane, chain-ind}
+use Rattle.marker_cycle.proofs.Emit.{nk, nw}
+use Rattle.marker_cycle.proofs.Items.{by-test, item-ind}
+use Rattle.marker_cycle.proofs.Whole.{program-short, parse-sane}
 use Rattle.marker_steps.specs.Grammar.{Tree, compared, both, either, group, keptIn, warnedIn, keptOf, Parsed, got, fault, settled, settle, Ahead, on, wordAhead, andWord, orWord, chain, itemOf, andOf, orOf, closed, groupAt, ending, parseFrom}
 use Rattle.marker_steps.specs.Marking.{isKept, some, push, joint, wordsFrom, program, Marking, marking}
 use Rattle.program.proofs.Meaning.{within-passes, within-ran}

@@ -9,11 +9,11 @@ use lib.Dec.{ltb}
 use lib.ListN.{length, length-append}
 use Rattle.comparison.specs.declared.judge.Verdict.{Verdict}
 use Rattle.comparison.specs.declared.judge.Verdict.the-variants.{Kept, KeptWarned, Ignored, IgnoredTwice}
-use Rattle.marker.proofs.Emit.{nk, one}
-use Rattle.marker.proofs.Held.{words-count}
 use Rattle.marker.proofs.Meaning.{kept-few}
-use Rattle.marker.proofs.Whole.{none-words}
 use Rattle.marker.specs.Numbers.{pushesIn}
+use Rattle.marker_cycle.proofs.Emit.{nk, one}
+use Rattle.marker_cycle.proofs.Held.{words-count}
+use Rattle.marker_cycle.proofs.Whole.{none-words}
 use Rattle.marker_steps.specs.Grammar.{Tree, compared, both, either, group, keptIn, keptOf, got, parseFrom}
 use Rattle.marker_steps.specs.Marking.{some, push, joint, wordsFrom, program}
 use Rattle.program.specs.Check.{places}

@@ -6,12 +6,12 @@ use mathlib.Core.Path.{_≡_, refl, sym, ap, _∙_}
 use native.Mathlib.Omega.{arith}
 use lib.ListN.{length, take, drop, replicate, length-append, length-replicate}
 use lib.Seq.{take-at}
-use Rattle.marker.proofs.Chain.{Sane}
-use Rattle.marker.proofs.Held.{numbers-length}
-use Rattle.marker.proofs.Whole.{parse-sane, program-short}
 use Rattle.marker.specs.Answer.{answered, markerAnswer, outcomeOf, listedOf, countsOf}
 use Rattle.marker.specs.declared.door.Outcome.{Outcome}
 use Rattle.marker.specs.declared.door.Outcome.the-variants as Outcome
+use Rattle.marker_cycle.proofs.Chain.{Sane}
+use Rattle.marker_cycle.proofs.Held.{numbers-length}
+use Rattle.marker_cycle.proofs.Whole.{parse-sane, program-short}
 use Rattle.marker_steps.proofs.Laws.{live}
 use Rattle.marker_steps.specs.Arrays.{pad, allNumbers, comparisonNumbers, warningNumbers, comparisonsAs, warningsAs, onto}
 use Rattle.marker_steps.specs.Grammar.{Parsed, got, fault, parseFrom}

@@ -8,13 +8,13 @@ use native.Mathlib.Omega.{arith}
 use lib.ListN.{length, getD, set, take, replicate, length-append}
 use lib.Seq.{take-suc, take-length}
 use Rattle.comparison.specs.declared.kind.Comparison.{Comparison}
-use Rattle.marker.proofs.Held.{pad-set}
 use Rattle.marker.specs.Answer.{noComparison, noWarning, listsOf}
 use Rattle.marker.specs.Store.{comparisonIn, warningIn, upTo, gathered, markerOf}
 use Rattle.marker.specs.declared.door.Marker.{Marker}
 use Rattle.marker.specs.declared.door.Outcome.the-variants as Outcome
 use Rattle.marker.specs.declared.lists.Lists.{Lists}
 use Rattle.marker_code.proofs.Own.{sort-own, key-own, operator-own}
+use Rattle.marker_cycle.proofs.Held.{pad-set}
 use Rattle.marker_steps.proofs.Laws.{live}
 use Rattle.marker_steps.specs.Arrays.{pad, comparisonNumbers, warningNumbers, allNumbers}
 use Rattle.marker_steps.specs.Grammar.{Parsed, got, fault}

@@ -1,5 +1,4 @@
-// The marker reader: three functions in a cycle over a lent line, and the doors that answer what they read.
-mod cycle;
+// The marker reader: the doors that answer what the cycle reads of a lent line.
 mod door;
 mod lists;
 mod load;

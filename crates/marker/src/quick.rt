@@ -8,8 +8,8 @@ ghost use Rattle.marker.specs.declared.door.Outcome.the-variants.{Refuse
 ghost use Rattle.marker_steps.specs.Arrays.{comparisonsAs, warningsAs, onto};
 ghost use Rattle.marker_steps.specs.Marking.{nothing};
 ghost use Rattle.text.specs.Check.{checked};
-use crate::cycle::read_from;
 use crate::door::Outcome;
+use marker_cycle::read_from;
 use marker_steps::Counts;
 use marker_steps::Part;
 use text::Checked;

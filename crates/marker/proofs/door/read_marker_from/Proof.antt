@@ -1,5 +1,5 @@
 use Rattle.marker.proofs.Doors.{marker-outcome, marker-lists}
-use Rattle.marker.proofs.Whole.{view-nothing, fits-of}
+use Rattle.marker_cycle.proofs.Whole.{view-nothing, fits-of}
 use Rattle.marker.proofs.door.read_marker_from.Statement.{statement}
 use Rattle.marker.proofs.door.read_marker_from.Tie as tie
 

@@ -1,7 +1,7 @@
 use mathlib.Core.Path.{ap, _∙_}
 use native.Mathlib.Omega.{arith}
 use Rattle.marker.proofs.Quickly.{marks-of, kept-room, warned-room, words-room, comps-size, warns-size, words-size, comps-copied, warns-copied, words-copied, quick-outcome, quick-counts, quick-refused, refused-quick-outcome, refused-quick-counts, refused-comps, refused-warns, refused-words}
-use Rattle.marker.proofs.Whole.{view-nothing}
+use Rattle.marker_cycle.proofs.Whole.{view-nothing}
 use Rattle.marker.specs.Answer.{told}
 use Rattle.marker.specs.declared.quick.Quick.{Quick}
 use borrow.Author.Needs.{needs}

@@ -9,20 +9,20 @@ use borrow.Author.Needs.{needs}
 use borrow.Fn.Kinds.{In}
 use borrow.Fn.PlainCycle.{Measures, is, falls, and}
 use Rattle.comparison.proofs.find.Reads as find-reads
-use Rattle.marker.proofs.Chain.{Held, togo, going-starts, going-stops, turns, turn-room, turn-spare, turn-again, turn-less}
-use Rattle.marker.proofs.Items.{joins-both, joins-either, word-sane, item-sane, and-sane, group-sane, item-group, item-found, group-deep, group-state}
+use Rattle.marker_cycle.proofs.Chain.{Held, togo, going-starts, going-stops, turns, turn-room, turn-spare, turn-again, turn-less}
+use Rattle.marker_cycle.proofs.Items.{joins-both, joins-either, word-sane, item-sane, and-sane, group-sane, item-group, item-found, group-deep, group-state}
 use Rattle.marker_steps.proofs.Laws.{room-of, right-of, inside-of, slack-of, shows-refused}
-use Rattle.marker.proofs.cycle.and_chain.Reads as and-chain
-use Rattle.marker.proofs.cycle.and_chain.Kinds as and-chain-kinds
-use Rattle.marker.proofs.cycle.+and_chain+comparison_or_group+or_chain.Lts-and_chain as and-chain-lts
-use Rattle.marker.proofs.cycle.comparison_or_group.Reads as comparison-or-group
-use Rattle.marker.proofs.cycle.comparison_or_group.Kinds as comparison-or-group-kinds
-use Rattle.marker.proofs.cycle.+and_chain+comparison_or_group+or_chain.Lts-comparison_or_group as comparison-or-group-lts
-use Rattle.marker.proofs.cycle.or_chain.Reads as or-chain
-use Rattle.marker.proofs.cycle.or_chain.Kinds as or-chain-kinds
-use Rattle.marker.proofs.cycle.+and_chain+comparison_or_group+or_chain.Lts-or_chain as or-chain-lts
-use Rattle.marker.proofs.cycle.+and_chain+comparison_or_group+or_chain.{statement}
-use Rattle.marker.proofs.cycle.+and_chain+comparison_or_group+or_chain.Tie.{close}
+use Rattle.marker_cycle.proofs.cycle.and_chain.Reads as and-chain
+use Rattle.marker_cycle.proofs.cycle.and_chain.Kinds as and-chain-kinds
+use Rattle.marker_cycle.proofs.cycle.+and_chain+comparison_or_group+or_chain.Lts-and_chain as and-chain-lts
+use Rattle.marker_cycle.proofs.cycle.comparison_or_group.Reads as comparison-or-group
+use Rattle.marker_cycle.proofs.cycle.comparison_or_group.Kinds as comparison-or-group-kinds
+use Rattle.marker_cycle.proofs.cycle.+and_chain+comparison_or_group+or_chain.Lts-comparison_or_group as comparison-or-group-lts
+use Rattle.marker_cycle.proofs.cycle.or_chain.Reads as or-chain
+use Rattle.marker_cycle.proofs.cycle.or_chain.Kinds as or-chain-kinds
+use Rattle.marker_cycle.proofs.cycle.+and_chain+comparison_or_group+or_chain.Lts-or_chain as or-chain-lts
+use Rattle.marker_cycle.proofs.cycle.+and_chain+comparison_or_group+or_chain.{statement}
+use Rattle.marker_cycle.proofs.cycle.+and_chain+comparison_or_group+or_chain.Tie.{close}
 use Rattle.marker_steps.proofs.refused.Reads as refused-reads
 use Rattle.marker_steps.proofs.ahead_and.Reads as ahead-and-reads
 use Rattle.marker_steps.proofs.ahead_or.Reads as ahead-or-reads

@@ -1,8 +1,8 @@
 use native.Mathlib.Omega.{arith}
 use Rattle.marker_steps.proofs.Laws.{slack-of}
-use Rattle.marker.proofs.Whole.{line-spare, line-state, whole-state}
-use Rattle.marker.proofs.cycle.read_from.Statement.{statement}
-use Rattle.marker.proofs.cycle.read_from.Tie as tie
+use Rattle.marker_cycle.proofs.Whole.{line-spare, line-state, whole-state}
+use Rattle.marker_cycle.proofs.cycle.read_from.Statement.{statement}
+use Rattle.marker_cycle.proofs.cycle.read_from.Tie as tie
 
 pub read-from-spec : {M : Type 1} → statement M
 read-from-spec =

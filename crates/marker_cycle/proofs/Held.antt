@@ -10,7 +10,7 @@ use lib.Seq.{set-append-seam, sets, sets-eq, take-at, drop-append-add}
 use Rattle.comparison.specs.declared.judge.Verdict.{Verdict}
 use Rattle.comparison.specs.declared.judge.Verdict.the-variants.{Kept, KeptWarned, Ignored, IgnoredTwice}
 use Rattle.comparison.specs.declared.kind.Comparison.{Comparison}
-use Rattle.marker.proofs.Emit.{nk, nw, one}
+use Rattle.marker_cycle.proofs.Emit.{nk, nw, one}
 use Rattle.marker_steps.specs.Arrays.{pad, comparisonNumbers, warningNumbers, allNumbers}
 use Rattle.marker_steps.specs.Grammar.{Tree, compared, both, either, group, keptIn, warnedIn, warningOf, keptOf, warnedOf}
 use Rattle.marker_steps.specs.Marking.{isKept, some, push, joint, wordsFrom}

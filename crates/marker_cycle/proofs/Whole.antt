@@ -8,10 +8,10 @@ use lib.Dec.{ltb}
 use lib.ListN.{length, replicate}
 use Rattle.comparison.specs.declared.judge.Verdict.{Verdict}
 use Rattle.comparison.specs.declared.judge.Verdict.the-variants.{Kept, KeptWarned, Ignored, IgnoredTwice}
-use Rattle.marker.proofs.Chain.{Sane}
-use Rattle.marker.proofs.Emit.{nk, one, emit-count}
-use Rattle.marker.proofs.Held.{emit-reads, push-reads, words-count}
-use Rattle.marker.proofs.Items.{by-test, or-sane, group-sane}
+use Rattle.marker_cycle.proofs.Chain.{Sane}
+use Rattle.marker_cycle.proofs.Emit.{nk, one, emit-count}
+use Rattle.marker_cycle.proofs.Held.{emit-reads, push-reads, words-count}
+use Rattle.marker_cycle.proofs.Items.{by-test, or-sane, group-sane}
 use Rattle.marker_steps.proofs.Laws.{live}
 use Rattle.marker_steps.specs.Arrays.{allNumbers}
 use Rattle.marker_steps.specs.Grammar.{Tree, compared, both, either, group, keptOf, warnedOf, Parsed, got, fault, orOf, groupAt, ending, parseFrom}

@@ -14,7 +14,7 @@ use Rattle.comparison.specs.Found.{foundAt}
 use Rattle.comparison.specs.declared.found.Found.{Found}
 use Rattle.comparison.specs.declared.found.Found.the-variants as Found
 use Rattle.comparison.specs.declared.judge.Verdict.{Verdict}
-use Rattle.marker.proofs.Chain.{Sane, Joins, chain-sane}
+use Rattle.marker_cycle.proofs.Chain.{Sane, Joins, chain-sane}
 use Rattle.marker_steps.specs.Grammar.{both, either, group, keptIn, warnedIn, keptOf, warnedOf, Parsed, got, fault, settled, settle, on, off, wordAhead, andWord, orWord, itemAt, itemOf, andOf, orOf, closed, groupAt}
 use Rattle.marker_steps.specs.Marking.{some}
 use Rattle.marker_steps.specs.Steps.{Raw, State, emit, stateOf, closedBy}

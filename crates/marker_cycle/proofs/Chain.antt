@@ -3,7 +3,7 @@ use mathlib.Core.Path.{_≡_, refl, sym, ap, ap₂, _∙_}
 use mathlib.Core.Bool.{Bool, true, _||_}
 use Prim.Native.Nat.{ℕ, zero, suc, _+_, _-_, _<_, _≤_}
 use native.Mathlib.Omega.{arith}
-use Rattle.marker.proofs.Emit.{nk, nw, emit-kept, emit-warned, room-after, spare-after}
+use Rattle.marker_cycle.proofs.Emit.{nk, nw, emit-kept, emit-warned, room-after, spare-after}
 use Rattle.marker_steps.specs.Grammar.{Tree, Parsed, got, fault, andThen, Ahead, on, off, more, chain}
 use Rattle.marker_steps.specs.Marking.{some}
 use Rattle.marker_steps.specs.Steps.{Raw, State, Room, Spare, stateOf, emit, joining, joined, onward, onwardAt}
