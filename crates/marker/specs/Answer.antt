@@ -1,4 +1,4 @@
--- What the doors answer, and what the arrays hold afterwards.
+-- What the doors answer, and what the arrays hold afterwards. How lists stand in arrays is said by `Arrays` of `marker_steps`.
 use Prim.Native.Nat.{ℕ}
 use mathlib.Core.List.{List}
 use lib.ListN.{length}

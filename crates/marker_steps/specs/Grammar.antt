@@ -101,7 +101,7 @@ abbrev pub orWord : List ℕ
 orWord = bytes "or"
 
 -- "Every chain groups to the left.": to a tree t read up to e, further items are joined where `goes` goes on. f bounds how many there are: `andOf`
--- and `orOf` take the length of the line, and `Fuel` proves that no chain has more.
+-- and `orOf` take the length of the line, and `Fuel` of `marker` proves that no chain has more.
 module _ (goes : ℕ → Ahead) (mk : Tree → Tree → Tree) (item : ℕ → ℕ → ℕ → Parsed) (k w : ℕ) where
   unfoldable pub more : ℕ → Tree → ℕ → Parsed
   more zero t e = got t e
