@@ -1,0 +1,11 @@
+use Rattle.gateway.proofs.Laws.{numbers}
+use Rattle.gateway.proofs.texts.hulmisker_specifier.Statement.{statement}
+use Rattle.gateway.proofs.texts.hulmisker_specifier.Tie as tie
+
+pub hulmisker-specifier-spec : {M : Type 1} → statement M
+hulmisker-specifier-spec =
+    tie.close
+    (tie.spec
+    (λ c κs. search numbers)  -- specifier-requires
+    (λ c κs. search numbers)  -- tell-judged-requires
+    (λ c. search numbers))  -- returns

@@ -1,0 +1,11 @@
+use Rattle.gateway.proofs.Laws.{numbers}
+use Rattle.gateway.proofs.texts.hulmisker_version.Statement.{statement}
+use Rattle.gateway.proofs.texts.hulmisker_version.Tie as tie
+
+pub hulmisker-version-spec : {M : Type 1} → statement M
+hulmisker-version-spec =
+    tie.close
+    (tie.spec
+    (λ c κs. search numbers)  -- version-requires
+    (λ c κs. search numbers)  -- tell-judged-requires
+    (λ c. search numbers))  -- returns
