@@ -30,6 +30,7 @@ except ImportError:
     packaging = None
 
 ROOT = generate.HERE.parent
+PROBE = shlex.quote(str(ROOT / "tools" / "run-program")) + " probe"
 JOINTS = b".-_"
 SPACE = b"\t\n\v\f\r "
 
@@ -438,8 +439,7 @@ def judged_all(requests, judge, probe, with_reference, size=20000):
 def main():
     parser = argparse.ArgumentParser(description="Compares the probe with the Rust.")
     generate.arguments(parser)
-    parser.add_argument("--probe", default=str(ROOT / "target" / "bin" / "probe"), metavar="COMMAND",
-                        help="default target/bin/probe; 'reference' for reference.py")
+    parser.add_argument("--probe", default=PROBE, metavar="COMMAND", help="default tools/run-program probe; 'reference' for reference.py")
     parser.add_argument("--oracle", default=ROOT / "target" / "oracle" / "oracle", metavar="FILE",
                         help="default target/oracle/oracle, which build.sh makes")
     parser.add_argument("--no-reference", action="store_true", help="do not compare with reference.py as well")

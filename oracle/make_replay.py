@@ -1,12 +1,12 @@
 #!/usr/bin/env python3
-"""Makes the list that the program `replay` holds: requests with their answers, on which the Rust and reference.py agree, or differ by a named class.
+"""Makes the list that the program `replay` is run on: requests with their answers, on which the Rust and reference.py agree, or differ by a named class.
 
-    python3 oracle/make_replay.py DIRECTORY [--seed N] [--cases N]
+    python3 oracle/make_replay.py [DIRECTORY] [--seed N] [--cases N]
 
-A line is `REQUEST<TAB>ANSWER`, both in the protocol of `probe`; the answer is document 01's. The lines go into DIRECTORY/replay-00.txt and so on, at
-most 60,000 bytes a file. The choice is by what an input shows: for each entry some inputs of each refusal, each class of difference, each mix of
-sorts, operators and warnings and each form of line, both sides of the length limit, then others up to the number wanted. The seed is fixed unless
-given, so the same list comes out each time. Any difference that is on no list stops the script.
+A line is `REQUEST<TAB>ANSWER`, both in the protocol of `probe`; the answer is document 01's. The lines go into DIRECTORY/stdin, and what `replay` must
+write into DIRECTORY/stdout; without a directory that is crates/replay. The choice is by what an input shows: for each entry some inputs of each refusal,
+each class of difference, each mix of sorts, operators and warnings and each form of line, both sides of the length limit, then others up to the number
+wanted. The seed is fixed unless given, so the same list comes out each time. Any difference that is on no list stops the script.
 """
 import argparse
 import collections
@@ -18,7 +18,6 @@ import sys
 import compare
 import generate
 
-CHUNK = 60000
 LONG = 240
 
 
@@ -57,8 +56,8 @@ def shown(text, ours, verdict):
 
 
 def main():
-    parser = argparse.ArgumentParser(description="Makes the list that `replay` holds.")
-    parser.add_argument("directory", type=pathlib.Path)
+    parser = argparse.ArgumentParser(description="Makes the list that `replay` is run on.")
+    parser.add_argument("directory", type=pathlib.Path, nargs="?", default=compare.ROOT / "crates" / "replay")
     parser.add_argument("--seed", type=int, default=20261115)
     parser.add_argument("--cases", type=int, default=5500, help="how many at least (default 5500)")
     parser.add_argument("--oracle", default=compare.ROOT / "target" / "oracle" / "oracle", metavar="FILE")
@@ -85,20 +84,13 @@ def main():
     chosen += others[:max(0, given.cases - len(chosen))]
     rng.shuffle(chosen)
     given.directory.mkdir(parents=True, exist_ok=True)
-    for old in given.directory.glob("replay-[0-9][0-9].txt"):
-        old.unlink()
-    chunks = [""]
-    for text, ours, _ in chosen:
-        line = "%s\t%s\n" % (text, ours)
-        if len(chunks[-1]) + len(line) > CHUNK:
-            chunks.append("")
-        chunks[-1] += line
-    for number, chunk in enumerate(chunks):
-        (given.directory / ("replay-%02d.txt" % number)).write_text(chunk, newline="\n")
+    lines = "".join("%s\t%s\n" % (text, ours) for text, ours, _ in chosen)
+    (given.directory / "stdin").write_text(lines, newline="\n")
+    (given.directory / "stdout").write_text("%d cases, 0 differ\n" % len(chosen), newline="\n")
     entries = collections.Counter(text.split(" ")[0] if ours != "bad request" else "bad request" for text, ours, _ in chosen)
     classes = collections.Counter(verdict for _, _, verdict in chosen)
     numbers = {ours.split(" ")[1] for _, ours, _ in chosen if ours.startswith("refused")}
-    print("%d cases in %d files, %d bytes" % (len(chosen), len(chunks), sum(map(len, chunks))))
+    print("%d cases, %d bytes" % (len(chosen), len(lines)))
     print("entries: " + ", ".join("%s %d" % pair for pair in sorted(entries.items())))
     print("classes: " + ", ".join("%s %d" % pair for pair in sorted(classes.items())))
     print("refusals that occur: " + " ".join(sorted(numbers, key=int)))

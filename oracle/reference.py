@@ -503,8 +503,9 @@ def answer(request):
 
 
 def main():
-    for request in sys.stdin:
-        print(answer(request.rstrip("\n")))
+    """A line feed alone ends a request; a last line without one is a request too, unless it is empty. Any byte may stand in a bad request."""
+    for request in sys.stdin.buffer:
+        print(answer(request.removesuffix(b"\n").decode("latin-1")))
 
 
 if __name__ == "__main__":
