@@ -1,0 +1,57 @@
+// One row for each line, for other programs to read.
+use crate::accepted::NAME;
+use crate::accepted::put_normal_name;
+use crate::arguments::PATH;
+use crate::place::Place;
+use crate::place::put_columns;
+use input::HELD;
+use output::ROOM;
+use output::put;
+use output::put_text;
+use wording::put_parts;
+use wording::put_refused;
+
+pub fn put_accepted_row(
+    out: &mut [u8; ROOM],
+    at: usize,
+    path: &[u8; PATH],
+    place: Place,
+    line: &[u8; HELD],
+    figures: &[usize; 12],
+    extras: &[usize; 64],
+    specifiers: &[usize; 64],
+    comparisons: &[usize; 320],
+    warnings: &[usize; 192],
+    words: &[u8; 127],
+    normal: &mut [u8; NAME],
+) -> usize {
+    let n = put_columns(out, at, path, place);
+    let n = put_text(out, n, b"ok\t");
+    let n = put_normal_name(out, n, line, figures[2], figures[3], normal);
+    let n = put(out, n, b'\t');
+    let n = put_parts(
+        out,
+        n,
+        figures,
+        extras,
+        specifiers,
+        comparisons,
+        warnings,
+        words,
+    );
+    put(out, n, b'\n')
+}
+
+pub fn put_refused_row(
+    out: &mut [u8; ROOM],
+    at: usize,
+    path: &[u8; PATH],
+    place: Place,
+    number: u8,
+    start: usize,
+    len: usize,
+) -> usize {
+    let n = put_columns(out, at, path, place);
+    let n = put_refused(out, n, number, start, len);
+    put(out, n, b'\n')
+}
