@@ -1,2 +1,3 @@
 pub mod Markers
+pub mod Quick
 pub mod Together

@@ -32,7 +32,7 @@ short (good m) = good (length (m .comparisons), map (λ w. (w .kind, w .span .st
 short (refused number start len) = refused number start len
 
 -- an item n times and once more, joined by a text
-abbrev joined : ℕ → List ℕ → List ℕ → List ℕ
+abbrev pub joined : ℕ → List ℕ → List ℕ → List ℕ
 joined zero joint item = item
 joined (suc n) joint item = item ++ joint ++ joined n joint item
 

@@ -1,10 +1,10 @@
--- "Cases to prove together: One table, one statement over it", over the line, extras and marker entries and the normaliser; with PEP 508's own lines and
--- further rows. Assumes nothing.
-use mathlib.Core.List.{List, [], _∷_, map}
+-- "Cases to prove together: One table, one statement over it", over the line, extras and marker entries and the normaliser; with PEP 508's own lines, every
+-- refusal 1 to 17 of the line at least twice, and both sides of 4,096 bytes, 32 extras and 32 specifiers. Assumes nothing.
+use mathlib.Core.List.{List, [], _∷_, _++_, map}
 use mathlib.Core.Path.{_≡_, refl}
-use Prim.Native.Nat.{ℕ}
+use Prim.Native.Nat.{ℕ, zero, suc, _+_}
 use Prim.Native.String.{String}
-use lib.ListN.{length}
+use lib.ListN.{length, replicate}
 use Rattle.comparison.specs.Found.{foundAt}
 use Rattle.comparison.specs.Operator.{laterSymbolIn, symbolIn, symbolAt, inAt, notAt, wordAt, operatorAt}
 use Rattle.comparison.specs.Value.{lastNameIn, stringNameIn, versionNameIn, namedAt, quotedAt, valueAt}
@@ -37,11 +37,12 @@ use Rattle.marker_steps.specs.Marking.{Marking, some, wordsFrom, program}
 use Rattle.line.specs.Line.{Parts, lineParts, lineAnswer}
 use Rattle.line.specs.declared.door.Url.{Url}
 use Rattle.line.specs.declared.door.Url.the-variants.{Absent, At}
-use Rattle.cases.proofs.Markers.{Row, short}
+use Rattle.cases.proofs.Markers.{Row, short, joined}
 
--- what is asked: an entry and its text
+-- what is asked: an entry and its text, or a line and its bytes
 pub data Question : Type 0 where
   marker extras name line : String → Question
+  lineOf : List ℕ → Question
 
 -- an answer in short: a marker's as in `Markers`; spans as a start and a length; a normal form
 pub data Reply : Type 0 where
@@ -72,9 +73,22 @@ replied (marker t) = on marked (short (checked (bytes t) (markerAnswer (bytes t)
 replied (extras t) = on (λ l. listed (map placed l)) (entry (bytes t))
 replied (name t) = good (written (output (bytes t) (bytes "#########")))
 replied (line t) = on parts (lineAnswer (bytes t))
+replied (lineOf s) = on parts (lineAnswer s)
 
 abbrev nothing : Row
 nothing = (0, [], 66 ∷ [])
+
+-- spans of one length, so far apart
+abbrev apart : ℕ → ℕ → ℕ → ℕ → List (ℕ × ℕ)
+apart zero from len step = []
+apart (suc n) from len step = (from, len) ∷ apart n (from + step) len step
+
+-- an extra or a specifier n times and once more
+abbrev extrasOnce : ℕ → List ℕ
+extrasOnce n = joined n (bytes ",") (bytes "b")
+
+abbrev textsOnce : ℕ → List ℕ
+textsOnce n = joined n (bytes ",") (bytes ">1")
 
 abbrev pub table : List (Question × Answer Reply)
 table =
@@ -96,24 +110,60 @@ table =
     ∷ (line "foo-;", refused 5 3 1)  -- 12
     ∷ (line "A", good (required (0, 1) [] [] [] nothing))
     ∷ (line "A.B-C_D", good (required (0, 7) [] [] [] nothing))
+    ∷ (line "aa", good (required (0, 2) [] [] [] nothing))
+    ∷ (line "name", good (required (0, 4) [] [] [] nothing))
     ∷ (line "name<=1", good (required (0, 4) [] ((4, 3) ∷ []) [] nothing))
+    ∷ (line "name>=3", good (required (0, 4) [] ((4, 3) ∷ []) [] nothing))
     ∷ (line "name>=3,<2", good (required (0, 4) [] ((4, 3) ∷ (8, 2) ∷ []) [] nothing))
     ∷ (line "name@http://foo.com", good (required (0, 4) [] [] ((5, 14) ∷ []) nothing))
     ∷ (line "name [fred,bar] @ http://foo.com ; python_version=='2.7'", good (required (0, 4) ((6, 4) ∷ (11, 3) ∷ []) [] ((18, 14) ∷ []) (1, [], 0 ∷ [])))
     ∷ (line "name[quux, strange];python_version<'2.7' and platform_version=='2'", good (required (0, 4) ((5, 4) ∷ (11, 7) ∷ []) [] [] (2, [], 0 ∷ 1 ∷ 64 ∷ [])))
+    ∷ (line "name; os_name=='a' or os_name=='b'", good (required (0, 4) [] [] [] (2, [], 0 ∷ 1 ∷ 65 ∷ [])))
+    ∷ (line "name; os_name=='a' and os_name=='b' or os_name=='c'", good (required (0, 4) [] [] [] (3, [], 0 ∷ 1 ∷ 64 ∷ 2 ∷ 65 ∷ [])))
+    ∷ (line "name; os_name=='a' and (os_name=='b' or os_name=='c')", good (required (0, 4) [] [] [] (3, [], 0 ∷ 1 ∷ 2 ∷ 65 ∷ 64 ∷ [])))
+    ∷ (line "name; os_name=='a' or os_name=='b' and os_name=='c'", good (required (0, 4) [] [] [] (3, [], 0 ∷ 1 ∷ 2 ∷ 64 ∷ 65 ∷ [])))
+    ∷ (line "name; (os_name=='a' or os_name=='b') and os_name=='c'", good (required (0, 4) [] [] [] (3, [], 0 ∷ 1 ∷ 65 ∷ 2 ∷ 64 ∷ [])))
+    ∷ (line "requests [security,tests] >= 2.8.1, == 2.8.* ; python_version < \"2.7\"", good (required (0, 8) ((10, 8) ∷ (19, 5) ∷ []) ((26, 8) ∷ (35, 10) ∷ []) [] (1, [], 0 ∷ [])))
+    ∷ (line "pip @ https://github.com/pypa/pip/archive/1.3.1.zip#sha1=da9234ee9982d4bbb3c72346a6de940a148ea686", good (required (0, 3) [] [] ((6, 91) ∷ []) nothing))
     ∷ (line " requests [security] (>= 2.8.1, == 2.8.*) ; extra=='a-'", good (required (1, 8) ((11, 8) ∷ []) ((22, 8) ∷ (31, 9) ∷ []) [] (1, (4, 44, 11) ∷ [], 0 ∷ [])))
     ∷ (line "a @ http://x; os_name=='a'", refused 17 14 1)
     ∷ (line "a @ ;", good (required (0, 1) [] [] ((4, 1) ∷ []) nothing))
+    ∷ (lineOf (replicate 4095 32 ++ bytes "a"), good (required (4095, 1) [] [] [] nothing))
+    ∷ (lineOf (replicate 4097 97), refused 1 4096 1)
+    ∷ (lineOf (replicate 4097 128), refused 1 4096 1)
+    ∷ (lineOf (bytes "a;" ++ (128 ∷ [])), refused 2 2 1)
+    ∷ (lineOf (bytes "-" ++ (97 ∷ 255 ∷ 128 ∷ [])), refused 2 2 1)
     ∷ (line "", refused 3 0 1)
+    ∷ (line "  ", refused 3 0 1)
     ∷ (line " .a", refused 4 1 1)
+    ∷ (line "[a]", refused 4 0 1)
+    ∷ (line "a._ >1", refused 5 2 1)
     ∷ (line "a[b", refused 6 1 1)
+    ∷ (line "a [", refused 6 2 1)
+    ∷ (line "a[,b]", refused 7 2 1)
+    ∷ (line "a [ ,", refused 7 4 1)
+    ∷ (line "a[b,]", refused 8 4 1)
+    ∷ (line "a[-b]", refused 8 2 1)
     ∷ (line "a[b c]", refused 9 4 1)
+    ∷ (line "a[b [c]", refused 9 4 1)
     ∷ (line "a[b!]", refused 10 3 1)
+    ∷ (line "a[b-!", refused 10 4 1)
     ∷ (line "a[b-]", refused 11 3 1)
+    ∷ (line "a[b,c_", refused 11 5 1)
+    ∷ (lineOf (bytes "a[" ++ extrasOnce 31 ++ bytes "]"), good (required (0, 1) (apart 32 2 1 2) [] [] nothing))
+    ∷ (lineOf (bytes "a[" ++ extrasOnce 32 ++ bytes "]"), refused 12 66 1)
+    ∷ (lineOf (bytes "a[" ++ extrasOnce 32 ++ bytes "c"), refused 12 66 2)
     ∷ (line "a @ ", refused 13 4 0)
+    ∷ (line "a@", refused 13 2 0)
     ∷ (line "a>=x", refused 14 1 3)
+    ∷ (line "a==1,;", refused 14 5 0)
     ∷ (line "a(>=1", refused 15 1 1)
+    ∷ (line "a (x", refused 15 2 1)
+    ∷ (lineOf (bytes "a" ++ textsOnce 31), good (required (0, 1) [] (apart 32 1 2 3) [] nothing))
+    ∷ (lineOf (bytes "a" ++ textsOnce 32), refused 16 97 2)
+    ∷ (lineOf (bytes "a(" ++ textsOnce 32 ++ bytes ")"), refused 16 98 2)
     ∷ (line "a b", refused 17 2 1)
+    ∷ (line "a (>1) x;", refused 17 7 1)
     ∷ (line "a;", refused 18 2 1)
     ∷ (line "a; os_name=='b' c", refused 24 16 0)
     ∷ []
