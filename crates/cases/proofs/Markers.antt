@@ -58,6 +58,11 @@ table =
     ∷ (bytes "'a'=='b' or os_name=='c'", 0, good (1, (5, 0, 8) ∷ [], 0 ∷ []))  -- case 4
     ∷ (bytes "('a'=='b')", 0, good (0, (5, 1, 8) ∷ [], 66 ∷ []))  -- case 5
     ∷ (bytes "python_version in 'abc'", 0, good (0, (1, 0, 23) ∷ (1, 0, 23) ∷ [], 66 ∷ []))  -- case 6
+    ∷ (bytes "python_version==os_name", 0, good (0, (1, 0, 23) ∷ [], 66 ∷ []))
+    ∷ (bytes "os_name==extra", 0, good (0, (2, 0, 14) ∷ [], 66 ∷ []))
+    ∷ (bytes "extra==os_name", 0, good (0, (4, 0, 14) ∷ [], 66 ∷ []))
+    ∷ (bytes "python_version in ''", 0, good (1, [], 0 ∷ []))
+    ∷ (bytes "'x' in python_version", 0, good (0, (1, 0, 21) ∷ [], 66 ∷ []))
     ∷ (bytes "os_name ~= 'a'", 0, good (0, (3, 0, 14) ∷ [], 66 ∷ []))  -- case 7
     ∷ (bytes "'a' ~= os_name", 0, good (1, [], 0 ∷ []))
     ∷ (bytes "os_name not in'x'", 0, good (1, [], 0 ∷ []))  -- case 8

@@ -9,7 +9,7 @@ use Rattle.comparison.specs.Found.{foundAt}
 use Rattle.comparison.specs.Operator.{laterSymbolIn, symbolIn, symbolAt, inAt, notAt, wordAt, operatorAt}
 use Rattle.comparison.specs.Value.{lastNameIn, stringNameIn, versionNameIn, namedAt, quotedAt, valueAt}
 use Rattle.name.specs.Normal.{normal, badAt}
-use Rattle.name.specs.Normalise.{output}
+use Rattle.name.specs.Normalise.{normalised, output}
 use Rattle.text.specs.Answer.{Answer, good, refused}
 use Rattle.text.specs.Check.{checked}
 use Rattle.text.specs.Refusal.{given}
@@ -39,16 +39,16 @@ use Rattle.line.specs.declared.door.Url.{Url}
 use Rattle.line.specs.declared.door.Url.the-variants.{Absent, At}
 use Rattle.cases.proofs.Markers.{Row, short, joined}
 
--- what is asked: an entry and its text, or a line and its bytes
+-- what is asked: an entry and its text, or a line's or a marker's bytes
 pub data Question : Type 0 where
   marker extras name line : String → Question
-  lineOf : List ℕ → Question
+  lineOf markerOf : List ℕ → Question
 
--- an answer in short: a marker's as in `Markers`; spans as a start and a length; a normal form
+-- an answer in short: a marker's as in `Markers`; spans as a start and a length; a normal form's length and the output
 pub data Reply : Type 0 where
   marked : Row → Reply
   listed : List (ℕ × ℕ) → Reply
-  written : List ℕ → Reply
+  written : ℕ → List ℕ → Reply
   required : ℕ × ℕ → List (ℕ × ℕ) → List (ℕ × ℕ) → List (ℕ × ℕ) → Row → Reply
 
 abbrev on : {A B : Type 0} → (A → B) → Answer A → Answer B
@@ -71,9 +71,10 @@ parts p = required (placed (p .name)) (map placed (p .extras)) (map placed (p .s
 abbrev replied : Question → Answer Reply
 replied (marker t) = on marked (short (checked (bytes t) (markerAnswer (bytes t) 0)))
 replied (extras t) = on (λ l. listed (map placed l)) (entry (bytes t))
-replied (name t) = good (written (output (bytes t) (bytes "#########")))
+replied (name t) = on (λ n. written n (output (bytes t) (bytes "#########"))) (normalised (bytes t) 9)
 replied (line t) = on parts (lineAnswer (bytes t))
 replied (lineOf s) = on parts (lineAnswer s)
+replied (markerOf s) = on marked (short (checked s (markerAnswer s 0)))
 
 abbrev nothing : Row
 nothing = (0, [], 66 ∷ [])
@@ -106,7 +107,7 @@ table =
     ∷ (marker "os_name=='a", refused 22 9 1)
     ∷ (extras "[,", refused 7 1 1)  -- 10
     ∷ (extras "[a,]", refused 8 3 1)
-    ∷ (name "Foo._-Bar", good (written (bytes "foo-bar##")))  -- 11
+    ∷ (name "Foo._-Bar", good (written 7 (bytes "foo-bar##")))  -- 11
     ∷ (line "foo-;", refused 5 3 1)  -- 12
     ∷ (line "A", good (required (0, 1) [] [] [] nothing))
     ∷ (line "A.B-C_D", good (required (0, 7) [] [] [] nothing))
@@ -129,6 +130,8 @@ table =
     ∷ (line "a @ http://x; os_name=='a'", refused 17 14 1)
     ∷ (line "a @ ;", good (required (0, 1) [] [] ((4, 1) ∷ []) nothing))
     ∷ (lineOf (replicate 4095 32 ++ bytes "a"), good (required (4095, 1) [] [] [] nothing))
+    ∷ (markerOf (replicate 4096 32), refused 18 4096 1)
+    ∷ (markerOf (replicate 4097 32), refused 1 4096 1)
     ∷ (lineOf (replicate 4097 97), refused 1 4096 1)
     ∷ (lineOf (replicate 4097 128), refused 1 4096 1)
     ∷ (lineOf (bytes "a;" ++ (128 ∷ [])), refused 2 2 1)

@@ -1,4 +1,4 @@
--- "A kept comparison holds its sort, key, operator and literal span"; what is ignored warns. What two values and an operator come to, by their sorts.
+-- "A kept comparison holds its sort .., key, operator and literal span"; what is ignored warns. What two values and an operator come to, by their sorts.
 use Prim.Native.Nat.{ℕ, _+_, _≤_}
 use mathlib.Core.Bool.{Bool, false, cond, _&&_}
 use mathlib.Core.List.{List}
@@ -131,7 +131,7 @@ extraLeft s op (Value.String other) = Ignored 4
 extraLeft s op Value.Extra = Ignored 4
 extraLeft s op (Value.Quoted at) = extraVerdict s op at
 
--- "With the literal on the left the operator is mirrored"; "[`~=`] With the literal first it is kept."; "Kind 5: two literals."
+-- "With the literal on the left the operator is mirrored"; of `~=` "With the literal first it is kept."; "Kind 5: two literals."
 abbrev pub quotedLeft : List ℕ → Span → Operator → Value → Verdict
 quotedLeft s at op (Value.Version key) = mirroredVerdict s key op at
 quotedLeft s at op (Value.String key) = Kept (kept Sort.String key (mirror op) at)

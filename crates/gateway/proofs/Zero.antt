@@ -1,6 +1,5 @@
 -- 0 is returned for no refusal: a caller may take 0 for yes. Assumes nothing.
-use mathlib.Core.Path.{_≡_, refl, sym, ap, _∙_}
-use Prim.Native.Nat.{ℕ}
+use mathlib.Core.Path.{_≡_, sym, ap, _∙_}
 use native.Mathlib.Omega.{arith}
 use Rattle.text.proofs.Numbers.{numbered}
 use Rattle.text.specs.Refusal.{given, faultNumber}

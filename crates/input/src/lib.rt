@@ -1,5 +1,5 @@
 // The lines of a descriptor, one by one. Bytes are fetched many at a time into an array that the caller lends.
-ghost use Prim.Native.Nat.{_≤_, min};
+ghost use Prim.Native.Nat.{min};
 ghost use mathlib.Core.Path.{_≡_};
 
 pub const ROOM: usize = 65536;

@@ -1,7 +1,7 @@
 -- The laws of a line's parts and its marker put together. Assumes nothing.
 use mathlib.Core.Path.{_≡_, refl, sym, ap, _∙_}
 use mathlib.Core.List.{List, []}
-use Prim.Native.Nat.{ℕ, _*_, _≤_}
+use Prim.Native.Nat.{ℕ, _≤_}
 use native.Mathlib.Omega.{arith}
 use borrow.Author.Needs.{needs}
 use lib.ListN.{length, set, replicate, length-replicate}
@@ -19,9 +19,8 @@ use Rattle.spans.proofs.Arrays.{load-over}
 use Rattle.spans.specs.Flat.{over, loaded, padded}
 use Rattle.spans.specs.Reading.{onGood}
 use Rattle.line_head.proofs.Counts.{Counts, head-counts, extras-of-few, texts-of-few}
-use Rattle.line_head.proofs.Within.{On}
 use Rattle.line_head.specs.Head as Head
-use Rattle.line_head.specs.Head.{head, andThen, extrasOf, textsOf, textCount}
+use Rattle.line_head.specs.Head.{head, extrasOf, textsOf, textCount}
 use Rattle.line_head.specs.declared.part.Head.{Head}
 use Rattle.line_head.specs.declared.part.HeadRead.{HeadRead}
 use Rattle.line_head.specs.declared.part.HeadRead.the-variants as HeadRead

@@ -6,9 +6,8 @@ use Rattle.marker.proofs.Own as Marker
 use Rattle.marker.specs.Answer.{told, outcomeOf}
 use Rattle.marker.specs.declared.door.Outcome.{Outcome}
 use Rattle.line.specs.Figures.{figuresOf, Buffers, written}
-use Rattle.line.specs.Line.{Parts, lineAnswer, filled, shown}
+use Rattle.line.specs.Line.{lineAnswer, filled, shown}
 use Rattle.line.specs.declared.door.Requirement.{Requirement}
-use Rattle.line.specs.declared.quick.Figures.{Figures}
 use Rattle.line.specs.declared.quick.QuickLine.{QuickLine}
 
 -- what `read_line` promises of its answer

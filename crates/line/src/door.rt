@@ -2,7 +2,6 @@
 ghost use mathlib.Core.List.{[]};
 ghost use mathlib.Core.Path.{_≡_};
 ghost use Prim.Native.Nat.{_≤_};
-ghost use lib.ListN.{length};
 ghost use Rattle.line_head.specs.Head.{extrasOf, textsOf, textCount};
 ghost use Rattle.marker.specs.Answer.{listsOf, told, outcomeOf, markerAnswer};
 ghost use Rattle.marker.specs.declared.door.Outcome.the-variants.{Read, Refused};

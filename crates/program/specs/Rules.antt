@@ -37,7 +37,7 @@ unfoldable pub highest : ℕ → List ℕ → ℕ
 highest h [] = h
 highest h (b ∷ s) = max h (highest (after h (word b)) s)
 
--- "A program passes for a count of at most 64 comparisons if it has 1 to 127 words, all known, each comparison number below the count; an
+-- "A program passes for a count of at most 64 comparisons .. if it has 1 to 127 words, all known, each comparison number below the count; an
 -- operator finds at least two values; at most 35 stand at any time; one stands at the end."
 pub record StackRules (s : List ℕ) (count : ℕ) : Type 0 where
   pub few : count ≤ 64

@@ -6,7 +6,9 @@ use crate::arguments::ends_options;
 use crate::arguments::take;
 use crate::lines::Come;
 use crate::lines::read_lines;
+use crate::place::Place;
 use crate::place::Style;
+use crate::plain::put_not_read_row;
 use crate::tally::COUNTS;
 use crate::tally::NOT_READ;
 use crate::tally::count;
@@ -37,14 +39,32 @@ fn tell_failure(path: &[u8], n: usize) {
     }
 }
 
-// Names the file and why it was not read to its end. What waits was written before, so that the two come in order.
-fn not_read(path: &[u8; PATH], n: usize, counts: &mut [u64; COUNTS]) {
+// Names the file and why it was not read to its end.
+fn not_read(
+    style: Style,
+    path: &[u8; PATH],
+    n: usize,
+    counts: &mut [u64; COUNTS],
+    out: &mut [u8; ROOM],
+    at: usize,
+) -> usize {
     tell_failure(path, n);
     count(counts, NOT_READ);
+    if !style.plain {
+        return at;
+    }
+    let place = Place {
+        named: style.named,
+        path_len: n,
+        number: 0,
+    };
+    put_not_read_row(out, at, path, place)
 }
 
+// What waits is written before a fault is told, so that the two come in order.
 fn end_file(
     come: Come,
+    style: Style,
     path: &[u8; PATH],
     n: usize,
     counts: &mut [u64; COUNTS],
@@ -52,9 +72,10 @@ fn end_file(
 ) -> usize {
     let at = flush(out, come.at);
     if come.failed {
-        not_read(path, n, counts);
+        not_read(style, path, n, counts, out, at)
+    } else {
+        at
     }
-    at
 }
 
 fn read_input(
@@ -68,7 +89,7 @@ fn read_input(
     at: usize,
 ) -> usize {
     let come = read_lines(STDIN_FILENO, style, path, n, fetched, line, counts, out, at);
-    end_file(come, path, n, counts, out)
+    end_file(come, style, path, n, counts, out)
 }
 
 fn read_file(
@@ -83,11 +104,10 @@ fn read_file(
 ) -> usize {
     let fd = open(path, n);
     if fd < 0 {
-        not_read(path, n, counts);
-        return at;
+        return not_read(style, path, n, counts, out, at);
     }
     let come = read_lines(fd, style, path, n, fetched, line, counts, out, at);
-    let waits = end_file(come, path, n, counts, out);
+    let waits = end_file(come, style, path, n, counts, out);
     libc::close(fd);
     waits
 }

@@ -36,7 +36,14 @@ fn put_path(out: &mut [u8; ROOM], at: usize, path: &[u8; PATH], len: usize) -> u
     n
 }
 
-fn put_name(out: &mut [u8; ROOM], at: usize, path: &[u8; PATH], place: Place, behind: u8) -> usize {
+// The file's name, where there are several.
+pub fn put_name(
+    out: &mut [u8; ROOM],
+    at: usize,
+    path: &[u8; PATH],
+    place: Place,
+    behind: u8,
+) -> usize {
     if !place.named {
         return at;
     }

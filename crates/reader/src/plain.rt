@@ -4,6 +4,7 @@ use crate::accepted::put_normal_name;
 use crate::arguments::PATH;
 use crate::place::Place;
 use crate::place::put_columns;
+use crate::place::put_name;
 use input::HELD;
 use output::ROOM;
 use output::put;
@@ -54,4 +55,10 @@ pub fn put_refused_row(
     let n = put_columns(out, at, path, place);
     let n = put_refused(out, n, number, start, len);
     put(out, n, b'\n')
+}
+
+// A file that was not read to its end has a row too: rows are no whole answer without it.
+pub fn put_not_read_row(out: &mut [u8; ROOM], at: usize, path: &[u8; PATH], place: Place) -> usize {
+    let n = put_name(out, at, path, place, b'\t');
+    put_text(out, n, b"-\tnot read\n")
 }

@@ -18,14 +18,14 @@ use wording::put_spans;
 const BEFORE: u8 = 170;
 
 pub fn put_bad(buf: &mut [u8; ROOM], at: usize) -> usize
-    ensures { λ r. ⌜ r ≤ max at 65536 ⌝ }
+    ensures { λ r. ⌜ r ≤ max at 65537 ⌝ }
 {
     put_text(buf, at, b"bad request")
 }
 
 // A number of 0 is no refusal.
 fn put_verdict(buf: &mut [u8; ROOM], at: usize, number: u8, start: usize, len: usize) -> usize
-    ensures { λ r. ⌜ r ≤ max at 65536 ⌝ }
+    ensures { λ r. ⌜ r ≤ max at 65537 ⌝ }
 {
     if number == 0 {
         put_text(buf, at, b"ok")
@@ -35,7 +35,7 @@ fn put_verdict(buf: &mut [u8; ROOM], at: usize, number: u8, start: usize, len: u
 }
 
 fn put_line(text: &[u8], buf: &mut [u8; ROOM], at: usize) -> usize
-    ensures { λ r. ⌜ r ≤ max at 65536 ⌝ }
+    ensures { λ r. ⌜ r ≤ max at 65537 ⌝ }
 {
     let mut figures = [0usize; 12];
     let mut extras = [0usize; 64];
@@ -69,7 +69,7 @@ fn put_line(text: &[u8], buf: &mut [u8; ROOM], at: usize) -> usize
 }
 
 fn put_extras(text: &[u8], buf: &mut [u8; ROOM], at: usize) -> usize
-    ensures { λ r. ⌜ r ≤ max at 65536 ⌝ }
+    ensures { λ r. ⌜ r ≤ max at 65537 ⌝ }
 {
     let mut figures = [0usize; 3];
     let mut extras = [0usize; 64];
@@ -81,7 +81,7 @@ fn put_extras(text: &[u8], buf: &mut [u8; ROOM], at: usize) -> usize
 }
 
 fn put_marker_alone(text: &[u8], buf: &mut [u8; ROOM], at: usize) -> usize
-    ensures { λ r. ⌜ r ≤ max at 65536 ⌝ }
+    ensures { λ r. ⌜ r ≤ max at 65537 ⌝ }
 {
     let mut figures = [0usize; 5];
     let mut comparisons = [0usize; 320];
@@ -103,7 +103,7 @@ fn put_marker_alone(text: &[u8], buf: &mut [u8; ROOM], at: usize) -> usize
 }
 
 fn put_version(text: &[u8], buf: &mut [u8; ROOM], at: usize) -> usize
-    ensures { λ r. ⌜ r ≤ max at 65536 ⌝ }
+    ensures { λ r. ⌜ r ≤ max at 65537 ⌝ }
 {
     let mut figures = [0usize; 2];
     let number = gateway::hulmisker_version(text, &mut figures);
@@ -111,7 +111,7 @@ fn put_version(text: &[u8], buf: &mut [u8; ROOM], at: usize) -> usize
 }
 
 fn put_pattern(text: &[u8], buf: &mut [u8; ROOM], at: usize) -> usize
-    ensures { λ r. ⌜ r ≤ max at 65536 ⌝ }
+    ensures { λ r. ⌜ r ≤ max at 65537 ⌝ }
 {
     let mut figures = [0usize; 2];
     let number = gateway::hulmisker_pattern(text, &mut figures);
@@ -119,7 +119,7 @@ fn put_pattern(text: &[u8], buf: &mut [u8; ROOM], at: usize) -> usize
 }
 
 fn put_specifier(text: &[u8], buf: &mut [u8; ROOM], at: usize) -> usize
-    ensures { λ r. ⌜ r ≤ max at 65536 ⌝ }
+    ensures { λ r. ⌜ r ≤ max at 65537 ⌝ }
 {
     let mut figures = [0usize; 2];
     let number = gateway::hulmisker_specifier(text, &mut figures);
@@ -147,7 +147,7 @@ fn normalise_front(name: &[u8], out: &mut [u8; OUT], room: usize, figures: &mut 
 }
 
 fn put_bytes(buf: &mut [u8; ROOM], at: usize, out: &[u8; OUT], room: usize) -> usize
-    ensures { λ r. ⌜ r ≤ max at 65536 ⌝ }
+    ensures { λ r. ⌜ r ≤ max at 65537 ⌝ }
 {
     let mut n = at;
     let mut i: usize = 0;
@@ -160,7 +160,7 @@ fn put_bytes(buf: &mut [u8; ROOM], at: usize, out: &[u8; OUT], room: usize) -> u
 
 // The first bytes of an output, `-` for none.
 fn put_out(buf: &mut [u8; ROOM], at: usize, out: &[u8; OUT], room: usize) -> usize
-    ensures { λ r. ⌜ r ≤ max at 65536 ⌝ }
+    ensures { λ r. ⌜ r ≤ max at 65537 ⌝ }
 {
     let n = put_text(buf, at, b" out=");
     if room == 0 {
@@ -177,7 +177,7 @@ fn put_normalised(
     buf: &mut [u8; ROOM],
     at: usize,
 ) -> usize
-    ensures { λ r. ⌜ r ≤ max at 65536 ⌝ }
+    ensures { λ r. ⌜ r ≤ max at 65537 ⌝ }
 {
     if OUT < room {
         return put_bad(buf, at);
@@ -192,7 +192,7 @@ fn put_normalised(
 
 // The length of a normal form, where there is one.
 fn put_length(buf: &mut [u8; ROOM], at: usize, number: u8, len: usize) -> usize
-    ensures { λ r. ⌜ r ≤ max at 65536 ⌝ }
+    ensures { λ r. ⌜ r ≤ max at 65537 ⌝ }
 {
     if 0 < number {
         return at;
@@ -202,7 +202,7 @@ fn put_length(buf: &mut [u8; ROOM], at: usize, number: u8, len: usize) -> usize
 }
 
 fn put_checked(program: &[u8], count: u64, buf: &mut [u8; ROOM], at: usize) -> usize
-    ensures { λ r. ⌜ r ≤ max at 65536 ⌝ }
+    ensures { λ r. ⌜ r ≤ max at 65537 ⌝ }
 {
     let mut figures = [0usize; 2];
     let number = gateway::hulmisker_check(program, count as usize, &mut figures);
@@ -210,7 +210,7 @@ fn put_checked(program: &[u8], count: u64, buf: &mut [u8; ROOM], at: usize) -> u
 }
 
 fn put_yes_no(buf: &mut [u8; ROOM], at: usize, answer: usize) -> usize
-    ensures { λ r. ⌜ r ≤ max at 65536 ⌝ }
+    ensures { λ r. ⌜ r ≤ max at 65537 ⌝ }
 {
     if answer == 0 {
         put_text(buf, at, b"ok no")
@@ -220,7 +220,7 @@ fn put_yes_no(buf: &mut [u8; ROOM], at: usize, answer: usize) -> usize
 }
 
 fn put_run(program: &[u8], count: u64, assignment: u64, buf: &mut [u8; ROOM], at: usize) -> usize
-    ensures { λ r. ⌜ r ≤ max at 65536 ⌝ }
+    ensures { λ r. ⌜ r ≤ max at 65537 ⌝ }
 {
     let mut figures = [0usize; 3];
     let number = gateway::hulmisker_run(program, count as usize, assignment, &mut figures);
@@ -238,7 +238,7 @@ fn put_entry(
     buf: &mut [u8; ROOM],
     at: usize,
 ) -> usize
-    ensures { λ r. ⌜ r ≤ max at 65536 ⌝ }
+    ensures { λ r. ⌜ r ≤ max at 65537 ⌝ }
 {
     let entry = request.entry;
     match entry {
@@ -262,7 +262,7 @@ fn put_front(
     buf: &mut [u8; ROOM],
     at: usize,
 ) -> usize
-    ensures { λ r. ⌜ r ≤ max at 65536 ⌝ }
+    ensures { λ r. ⌜ r ≤ max at 65537 ⌝ }
 {
     let len = request.len;
     if data.len() < len {
@@ -278,7 +278,7 @@ pub fn put_answer(
     buf: &mut [u8; ROOM],
     at: usize,
 ) -> usize
-    ensures { λ r. ⌜ r ≤ max at 65536 ⌝ }
+    ensures { λ r. ⌜ r ≤ max at 65537 ⌝ }
 {
     put_front(request, data, out, buf, at)
 }

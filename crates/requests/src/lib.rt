@@ -27,7 +27,7 @@ fn answer_front(
     buf: &mut [u8; ROOM],
     at: usize,
 ) -> usize
-    ensures { λ r. ⌜ r ≤ max at 65536 ⌝ }
+    ensures { λ r. ⌜ r ≤ max at 65537 ⌝ }
 {
     if MOST < len {
         return put_bad(buf, at);
@@ -49,7 +49,7 @@ pub fn answer(
     buf: &mut [u8; ROOM],
     at: usize,
 ) -> usize
-    ensures { λ r. ⌜ r ≤ max at 65536 ⌝ }
+    ensures { λ r. ⌜ r ≤ max at 65537 ⌝ }
 {
     answer_front(line, len, data, out, buf, at)
 }

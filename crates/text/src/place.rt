@@ -1,4 +1,4 @@
-// Total reads of a line: past its end stands 0, which is in no class of document 01 that a name or a value starts with.
+// Total reads of a line: past its end stands 0, with which no name and no operator starts; where the end matters, callers test it.
 ghost use mathlib.Core.Path.{_≡_};
 ghost use Prim.Native.Nat.{_-_};
 ghost use lib.Dec.{eqb};

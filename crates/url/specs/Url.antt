@@ -46,7 +46,7 @@ firstFrom p (suc n) at = let later = firstFrom p n (suc at) in cond (p at) at la
 unfoldable pub urlEnd : List ℕ → ℕ → ℕ
 urlEnd s start = firstFrom (stopsAt s) (length s - start) start
 
--- "is consumed": reading goes on after the whitespace that ended it, but for a `;` or `#`, which ends it by itself
+-- "CR or LF ends it and is consumed", and so is other whitespace that ended it; a `;` or `#` ends it by itself, and reading goes on just behind
 unfoldable pub goesOn : List ℕ → ℕ → ℕ
 goesOn s end = cond (markedAt s end) end (cond (ltb end (length s)) (end + 1) end)
 

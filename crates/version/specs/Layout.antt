@@ -1,5 +1,5 @@
--- Where the parts of a version stand: "Outer whitespace; optional `v`; optional number and `!`; numbers joined by `.`; optional pre part, post part
--- and dev part; optional `+` local part."
+-- Where the parts of a version stand: "Outer whitespace; optional `v`; optional number and `!`; numbers joined by `.`; optional pre part ..,
+-- post part .. and dev part, ..; optional `+` local part."
 use Prim.Native.Nat.{ℕ, _+_}
 use Prim.Native.Char.{code}
 use mathlib.Core.Bool.{Bool, cond, _&&_}

@@ -9,14 +9,14 @@ use output::put_number;
 use output::put_text;
 
 fn put_count(buf: &mut [u8; ROOM], at: usize, n: usize) -> usize
-    ensures { λ r. ⌜ r ≤ max at 65536 ⌝ }
+    ensures { λ r. ⌜ r ≤ max at 65537 ⌝ }
 {
     put_number(buf, at, n as u64)
 }
 
 // A start and a length, with a comma between, or a blank.
 fn put_pair(buf: &mut [u8; ROOM], at: usize, start: usize, between: u8, len: usize) -> usize
-    ensures { λ r. ⌜ r ≤ max at 65536 ⌝ }
+    ensures { λ r. ⌜ r ≤ max at 65537 ⌝ }
 {
     let n = put_count(buf, at, start);
     let n = put(buf, n, between);
@@ -24,13 +24,13 @@ fn put_pair(buf: &mut [u8; ROOM], at: usize, start: usize, between: u8, len: usi
 }
 
 fn put_span(buf: &mut [u8; ROOM], at: usize, start: usize, len: usize) -> usize
-    ensures { λ r. ⌜ r ≤ max at 65536 ⌝ }
+    ensures { λ r. ⌜ r ≤ max at 65537 ⌝ }
 {
     put_pair(buf, at, start, b',', len)
 }
 
 pub fn put_refused(buf: &mut [u8; ROOM], at: usize, number: u8, start: usize, len: usize) -> usize
-    ensures { λ r. ⌜ r ≤ max at 65536 ⌝ }
+    ensures { λ r. ⌜ r ≤ max at 65537 ⌝ }
 {
     let n = put_text(buf, at, b"refused ");
     let n = put_number(buf, n, number as u64);
@@ -40,13 +40,13 @@ pub fn put_refused(buf: &mut [u8; ROOM], at: usize, number: u8, start: usize, le
 
 // Between the items of a list.
 fn put_joint(buf: &mut [u8; ROOM], at: usize, item: usize, joint: u8) -> usize
-    ensures { λ r. ⌜ r ≤ max at 65536 ⌝ }
+    ensures { λ r. ⌜ r ≤ max at 65537 ⌝ }
 {
     if 0 < item { put(buf, at, joint) } else { at }
 }
 
 fn put_item(buf: &mut [u8; ROOM], at: usize, spans: &[usize; 64], i: usize) -> usize
-    ensures { λ r. ⌜ r ≤ max at 65536 ⌝ }
+    ensures { λ r. ⌜ r ≤ max at 65537 ⌝ }
 {
     if 32 <= i {
         return at;
@@ -56,7 +56,7 @@ fn put_item(buf: &mut [u8; ROOM], at: usize, spans: &[usize; 64], i: usize) -> u
 }
 
 fn put_items(buf: &mut [u8; ROOM], at: usize, spans: &[usize; 64], count: usize) -> usize
-    ensures { λ r. ⌜ r ≤ max at 65536 ⌝ }
+    ensures { λ r. ⌜ r ≤ max at 65537 ⌝ }
 {
     let mut n = at;
     let mut i: usize = 0;
@@ -76,14 +76,14 @@ pub fn put_spans(
     spans: &[usize; 64],
     count: usize,
 ) -> usize
-    ensures { λ r. ⌜ r ≤ max at 65536 ⌝ }
+    ensures { λ r. ⌜ r ≤ max at 65537 ⌝ }
 {
     let n = put_text(buf, at, label);
     put_items(buf, n, spans, count)
 }
 
 fn put_comparison(buf: &mut [u8; ROOM], at: usize, list: &[usize; 320], i: usize) -> usize
-    ensures { λ r. ⌜ r ≤ max at 65536 ⌝ }
+    ensures { λ r. ⌜ r ≤ max at 65537 ⌝ }
 {
     if 64 <= i {
         return at;
@@ -99,7 +99,7 @@ fn put_comparison(buf: &mut [u8; ROOM], at: usize, list: &[usize; 320], i: usize
 }
 
 fn put_comparisons(buf: &mut [u8; ROOM], at: usize, list: &[usize; 320], count: usize) -> usize
-    ensures { λ r. ⌜ r ≤ max at 65536 ⌝ }
+    ensures { λ r. ⌜ r ≤ max at 65537 ⌝ }
 {
     let mut n = at;
     let mut i: usize = 0;
@@ -112,7 +112,7 @@ fn put_comparisons(buf: &mut [u8; ROOM], at: usize, list: &[usize; 320], count: 
 }
 
 fn put_warning(buf: &mut [u8; ROOM], at: usize, list: &[usize; 192], i: usize) -> usize
-    ensures { λ r. ⌜ r ≤ max at 65536 ⌝ }
+    ensures { λ r. ⌜ r ≤ max at 65537 ⌝ }
 {
     if 64 <= i {
         return at;
@@ -124,7 +124,7 @@ fn put_warning(buf: &mut [u8; ROOM], at: usize, list: &[usize; 192], i: usize) -
 }
 
 fn put_warnings(buf: &mut [u8; ROOM], at: usize, list: &[usize; 192], count: usize) -> usize
-    ensures { λ r. ⌜ r ≤ max at 65536 ⌝ }
+    ensures { λ r. ⌜ r ≤ max at 65537 ⌝ }
 {
     let mut n = at;
     let mut i: usize = 0;
@@ -137,13 +137,13 @@ fn put_warnings(buf: &mut [u8; ROOM], at: usize, list: &[usize; 192], count: usi
 }
 
 fn put_word(buf: &mut [u8; ROOM], at: usize, word: u8) -> usize
-    ensures { λ r. ⌜ r ≤ max at 65536 ⌝ }
+    ensures { λ r. ⌜ r ≤ max at 65537 ⌝ }
 {
     put_number(buf, at, word as u64)
 }
 
 fn put_words(buf: &mut [u8; ROOM], at: usize, words: &[u8; 127], count: usize) -> usize
-    ensures { λ r. ⌜ r ≤ max at 65536 ⌝ }
+    ensures { λ r. ⌜ r ≤ max at 65537 ⌝ }
 {
     let mut n = at;
     let mut i: usize = 0;
@@ -164,7 +164,7 @@ pub fn put_marker(
     words: &[u8; 127],
     counts: [usize; 3],
 ) -> usize
-    ensures { λ r. ⌜ r ≤ max at 65536 ⌝ }
+    ensures { λ r. ⌜ r ≤ max at 65537 ⌝ }
 {
     let n = put_text(buf, at, b" comparisons=");
     let n = put_comparisons(buf, n, comparisons, counts[0]);
@@ -175,7 +175,7 @@ pub fn put_marker(
 }
 
 fn put_url(buf: &mut [u8; ROOM], at: usize, urls: usize, start: usize, len: usize) -> usize
-    ensures { λ r. ⌜ r ≤ max at 65536 ⌝ }
+    ensures { λ r. ⌜ r ≤ max at 65537 ⌝ }
 {
     if urls == 0 {
         return put_text(buf, at, b" url=-");
@@ -192,7 +192,7 @@ fn put_head(
     extras: &[usize; 64],
     specifiers: &[usize; 64],
 ) -> usize
-    ensures { λ r. ⌜ r ≤ max at 65536 ⌝ }
+    ensures { λ r. ⌜ r ≤ max at 65537 ⌝ }
 {
     let n = put_text(buf, at, b"name=");
     let n = put_span(buf, n, figures[2], figures[3]);
@@ -212,7 +212,7 @@ pub fn put_parts(
     warnings: &[usize; 192],
     words: &[u8; 127],
 ) -> usize
-    ensures { λ r. ⌜ r ≤ max at 65536 ⌝ }
+    ensures { λ r. ⌜ r ≤ max at 65537 ⌝ }
 {
     let n = put_head(buf, at, figures, extras, specifiers);
     let counts = [figures[9], figures[10], figures[11]];

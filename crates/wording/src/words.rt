@@ -9,7 +9,7 @@ use output::put;
 use output::put_text;
 
 pub fn put_sort(buf: &mut [u8; ROOM], at: usize, code: usize) -> usize
-    ensures { λ r. ⌜ r ≤ max at 65536 ⌝ }
+    ensures { λ r. ⌜ r ≤ max at 65537 ⌝ }
 {
     match marker_code::sort_of(code) {
         Sort::Version => put_text(buf, at, b"version"),
@@ -23,7 +23,7 @@ pub fn put_sort(buf: &mut [u8; ROOM], at: usize, code: usize) -> usize
 }
 
 pub fn put_key(buf: &mut [u8; ROOM], at: usize, code: usize) -> usize
-    ensures { λ r. ⌜ r ≤ max at 65536 ⌝ }
+    ensures { λ r. ⌜ r ≤ max at 65537 ⌝ }
 {
     match marker_code::key_of(code) {
         Key::PythonVersion => put_text(buf, at, b"python_version"),
@@ -43,7 +43,7 @@ pub fn put_key(buf: &mut [u8; ROOM], at: usize, code: usize) -> usize
 
 // Behind `not`, with what is to stand between the two words.
 fn put_not(buf: &mut [u8; ROOM], at: usize, between: u8, word: &[u8]) -> usize
-    ensures { λ r. ⌜ r ≤ max at 65536 ⌝ }
+    ensures { λ r. ⌜ r ≤ max at 65537 ⌝ }
 {
     let n = put_text(buf, at, b"not");
     let n = put(buf, n, between);
@@ -51,7 +51,7 @@ fn put_not(buf: &mut [u8; ROOM], at: usize, between: u8, word: &[u8]) -> usize
 }
 
 pub fn put_operator(buf: &mut [u8; ROOM], at: usize, code: usize, between: u8) -> usize
-    ensures { λ r. ⌜ r ≤ max at 65536 ⌝ }
+    ensures { λ r. ⌜ r ≤ max at 65537 ⌝ }
 {
     match marker_code::operator_of(code) {
         Operator::Equal => put_text(buf, at, b"=="),

@@ -7,7 +7,7 @@ pub put-part-spec : {M : Type 1} → statement M
 put-part-spec =
     tie.close
     (tie.spec
-    (λ buf₀ at text from to n₀ i₀ buf n i. n ≤ max at 65536)  -- Inv-loop
+    (λ buf₀ at text from to n₀ i₀ buf n i. n ≤ max at 65537)  -- Inv-loop
     (λ buf₀ at text from to n₀ i₀ buf n i. to - i)  -- μ-loop
     (λ c. search needs)  -- loop-holds
     (λ c. search needs)  -- shared-slice-read-put

@@ -7,7 +7,7 @@ pub put-bytes-spec : {M : Type 1} → statement M
 put-bytes-spec =
     tie.close
     (tie.spec
-    (λ buf₀ at out room n₀ i₀ buf n i. n ≤ max at 65536)  -- Inv-loop
+    (λ buf₀ at out room n₀ i₀ buf n i. n ≤ max at 65537)  -- Inv-loop
     (λ buf₀ at out room n₀ i₀ buf n i. room - i)  -- μ-loop
     (λ c. search needs)  -- loop-holds
     (λ c. search needs)  -- element-copy-out-put-hex

@@ -7,7 +7,7 @@ pub put-comparisons-spec : {M : Type 1} → statement M
 put-comparisons-spec =
     tie.close
     (tie.spec
-    (λ buf₀ at list count n₀ i₀ buf n i. n ≤ max at 65536)  -- Inv-loop
+    (λ buf₀ at list count n₀ i₀ buf n i. n ≤ max at 65537)  -- Inv-loop
     (λ buf₀ at list count n₀ i₀ buf n i. count - i)  -- μ-loop
     (λ c. search needs)  -- loop-holds
     (λ c κs. search needs)  -- put-joint-requires

@@ -7,7 +7,7 @@ pub put-words-spec : {M : Type 1} → statement M
 put-words-spec =
     tie.close
     (tie.spec
-    (λ buf₀ at words count n₀ i₀ buf n i. n ≤ max at 65536)  -- Inv-loop
+    (λ buf₀ at words count n₀ i₀ buf n i. n ≤ max at 65537)  -- Inv-loop
     (λ buf₀ at words count n₀ i₀ buf n i. count - i)  -- μ-loop
     (λ c. search needs)  -- loop-holds
     (λ c κs. search needs)  -- put-joint-requires
