@@ -53,6 +53,7 @@ same "rows of -" want out
 
 {
     sed 's/^/good.txt	/' rows
+    printf 'missing.txt\t-\tnot read\nfolder\t-\tnot read\n'
     printf 'other.txt\t1\tok\td\tname=0,1 extras= specifiers= url=- comparisons=string,os_name,not_contains,30,1 warnings=1,2,23;1,2,23 program=0\n'
 } >want
 printf 'missing.txt: No such file or directory\nfolder: Is a directory\n' >want-err
@@ -70,6 +71,14 @@ run "a name that starts with -, and a last line without LF" -- -name
 : >want
 printf 'usage: ./hulmisker read [--plain] [--] [FILE..]   (- or no FILE: standard input)\n' >want-err
 run "an unknown option" -name good.txt
+"$here/hulmisker" read -name good.txt >out 2>err
+echo $? >out
+echo 2 >want
+same "an unknown option, status" want out
+
+"$here/hulmisker" read --plain good.txt >/dev/full 2>err
+printf 'standard output: No space left on device\n' >want
+same "a write that fails, standard error" want err
 
 long=$(printf '%4096s' '' | tr ' ' x)
 printf 'lines 0, accepted 0, refused 0, passed over 0, files not read 1\n' >want

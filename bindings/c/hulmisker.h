@@ -164,7 +164,7 @@ enum hulmisker_operator {
     HULMISKER_OPERATOR_GREATER = 4,
     HULMISKER_OPERATOR_GREATER_EQUAL = 5,
     HULMISKER_OPERATOR_COMPATIBLE = 6,
-    HULMISKER_OPERATOR_IN = 7,           /* the key's text is part of the literal */
+    HULMISKER_OPERATOR_IN = 7,           /* the key's text is part of the literal; for a list of versions: it is one of them */
     HULMISKER_OPERATOR_NOT_IN = 8,
     HULMISKER_OPERATOR_CONTAINS = 9,     /* the literal is part of the key's text: 'x' in os_name */
     HULMISKER_OPERATOR_NOT_CONTAINS = 10
@@ -174,7 +174,7 @@ enum hulmisker_operator {
 enum hulmisker_warning_kind {
     HULMISKER_WARNING_VERSION = 1,       /* a version key against no literal, an invalid version, or one that can't go with the operator */
     HULMISKER_WARNING_NAMES = 2,         /* a string key against a name */
-    HULMISKER_WARNING_COMPATIBLE = 3,    /* a string key with ~= */
+    HULMISKER_WARNING_COMPATIBLE = 3,    /* a string key, ~= and a literal on its right */
     HULMISKER_WARNING_EXTRA = 4,         /* extra against a name, with an operator other than == and !=, or with a name that can't be normalised */
     HULMISKER_WARNING_LITERALS = 5       /* two literals */
 };
@@ -268,7 +268,7 @@ static inline const char *hulmisker_refusal_text(unsigned number)
     case HULMISKER_EXPECTED_FOUND_OTHER: return "another byte where ')' or 'in' is wanted";
     case HULMISKER_MARKER_GOES_ON: return "the marker goes on after its last part";
     case HULMISKER_TOO_DEEP: return "over 16 open parentheses";
-    case HULMISKER_COMPARISONS_MANY: return "over 64 comparisons";
+    case HULMISKER_COMPARISONS_MANY: return "over 64 kept comparisons";
     case HULMISKER_WARNINGS_MANY: return "over 64 warnings";
     case HULMISKER_NAME_BAD: return "the name cannot be normalised";
     case HULMISKER_OUTPUT_SHORT: return "the output is shorter than the normal form";

@@ -27,18 +27,24 @@ struct Counts {
     names: BTreeMap<Vec<u8>, u64>,
 }
 
+/// A comment, or a line of white space alone: bytes 9 to 13 and 32.
+fn is_passed_over(line: &[u8]) -> bool {
+    line.starts_with(b"#") || line.iter().all(|byte| matches!(byte, 9..=13 | 32))
+}
+
 impl Counts {
     fn take_line(&mut self, reader: &mut Reader, line: &[u8]) {
         self.lines += 1;
-        match line.trim_ascii().first() {
-            None | Some(b'#') => self.passed_over += 1,
-            Some(_) => match reader.read(line) {
-                Ok(requirement) => self.take(line, requirement),
-                Err(refusal) => {
-                    eprintln!("{}", refusal.show(line));
-                    *self.refused.entry(refusal.fault.number()).or_default() += 1;
-                }
-            },
+        if is_passed_over(line) {
+            self.passed_over += 1;
+            return;
+        }
+        match reader.read(line) {
+            Ok(requirement) => self.take(line, requirement),
+            Err(refusal) => {
+                eprintln!("{}", refusal.show(line));
+                *self.refused.entry(refusal.fault.number()).or_default() += 1;
+            }
         }
     }
 
@@ -104,12 +110,12 @@ fn main() -> ExitCode {
                 return ExitCode::from(2);
             }
         };
-        let mut lines: Vec<&[u8]> = text.split(|&byte| byte == b'\n').collect();
-        if lines.last().is_some_and(|last| last.is_empty()) {
-            lines.pop(); // behind the last line feed there is no line
-        }
-        for line in lines {
-            counts.take_line(&mut reader, line.strip_suffix(b"\r").unwrap_or(line));
+        for line in text.split_inclusive(|&byte| byte == b'\n') {
+            let line = line
+                .strip_suffix(b"\r\n")
+                .or(line.strip_suffix(b"\n"))
+                .unwrap_or(line);
+            counts.take_line(&mut reader, line);
         }
     }
     counts.print();

@@ -70,7 +70,7 @@ pub enum Operator {
     GreaterEqual,
     /// `~=`
     Compatible,
-    /// `in`: the key's text is part of the literal.
+    /// `in`: the key's text is part of the literal; for a list of versions, the version is one of them.
     In,
     /// `not in`
     NotIn,
@@ -88,7 +88,7 @@ pub enum WarningKind {
     Pep440Error = 1,
     /// A string key against a name.
     MarkerMarkerComparison = 2,
-    /// A string key with `~=` and a literal.
+    /// A string key, `~=` and a literal on its right.
     LexicographicComparison = 3,
     /// `extra` against a name, with an operator other than `==` and `!=`, or with a name that can't be normalised.
     ExtraInvalidComparison = 4,

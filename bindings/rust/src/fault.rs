@@ -149,7 +149,7 @@ impl Fault {
             Fault::ExpectedFoundOther => "another byte where ')' or 'in' is wanted",
             Fault::MarkerGoesOn => "the marker goes on after its last part",
             Fault::TooDeep => "over 16 open parentheses",
-            Fault::ComparisonsMany => "over 64 comparisons",
+            Fault::ComparisonsMany => "over 64 kept comparisons",
             Fault::WarningsMany => "over 64 warnings",
             Fault::NameBad => "the name cannot be normalised",
             Fault::OutputShort => "the output is shorter than the normal form",

@@ -64,7 +64,7 @@ impl Program {
         match run(self.words(), self.count, assignment) {
             Ok(answer) => answer,
             // The runner refuses just what the check refuses. This program passed it, or is an accepted marker's, which always passes
-            // (`answer-passes` in crates/marker).
+            // (`answer-passes` in crates/marker, `line-passes` in crates/line).
             Err(refusal) => unreachable!("a program that passed is refused: {refusal}"),
         }
     }

@@ -90,3 +90,52 @@ fn limits() {
         assert_eq!(constant(&format!("HULMISKER_MAX_{name}")), limit);
     }
 }
+
+#[test]
+fn sorts() {
+    let names = [
+        "VERSION",
+        "VERSION_LIST",
+        "STRING",
+        "EXTRA_NORMAL",
+        "EXTRA_ARBITRARY",
+    ];
+    for (code, name) in names.into_iter().enumerate() {
+        assert_eq!(constant(&format!("HULMISKER_SORT_{name}")), code);
+    }
+}
+
+/// The number that stands behind a text in the proved functions' source, from a function's name on.
+fn declared(function: &str, parameter: &str) -> usize {
+    let source = concat!(
+        include_str!("../../../crates/gateway/src/lists.rt"),
+        include_str!("../../../crates/gateway/src/programs.rt"),
+        include_str!("../../../crates/gateway/src/texts.rt"),
+    );
+    let (_, rest) = source.split_once(&format!("fn {function}(")).unwrap();
+    let (_, rest) = rest.split_once(parameter).unwrap();
+    rest.split_once(']').unwrap().0.parse().unwrap()
+}
+
+#[test]
+fn sizes() {
+    for (name, function) in [
+        ("LINE", "hulmisker_line"),
+        ("EXTRAS", "hulmisker_extras"),
+        ("MARKER", "hulmisker_marker"),
+        ("JUDGED", "hulmisker_version"),
+        ("NORMALISE", "hulmisker_normalise"),
+        ("CHECK", "hulmisker_check"),
+        ("RUN", "hulmisker_run"),
+    ] {
+        let size = declared(function, "figures: &mut [usize; ");
+        assert_eq!(constant(&format!("HULMISKER_{name}_FIGURES")), size);
+    }
+    for list in ["extras", "specifiers", "comparisons", "warnings"] {
+        let size = declared("hulmisker_line", &format!("{list}: &mut [usize; "));
+        let name = format!("HULMISKER_{}_SIZE", list.to_ascii_uppercase());
+        assert_eq!(constant(&name), size);
+    }
+    let size = declared("hulmisker_line", "words: &mut [u8; ");
+    assert_eq!(constant("HULMISKER_WORDS_SIZE"), size);
+}
