@@ -76,9 +76,13 @@ echo $? >out
 echo 2 >want
 same "an unknown option, status" want out
 
-"$here/hulmisker" read --plain good.txt >/dev/full 2>err
-printf 'standard output: No space left on device\n' >want
-same "a write that fails, standard error" want err
+if [ -c /dev/full ]; then
+    "$here/hulmisker" read --plain good.txt >/dev/full 2>err
+    printf 'standard output: No space left on device\n' >want
+    same "a write that fails, standard error" want err
+else
+    echo "reader: no /dev/full here: a write that fails was not tried"
+fi
 
 long=$(printf '%4096s' '' | tr ' ' x)
 printf 'lines 0, accepted 0, refused 0, passed over 0, files not read 1\n' >want
