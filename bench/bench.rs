@@ -1,13 +1,19 @@
 //! What a line costs: ours through the quick door and the given Rust, by turns in one process.
 //!
 //!     bench time NIGHT ROUNDS MICROSECONDS   tables of nanoseconds
-//!     bench calls NIGHT                      calls each side once on each kind, for a program that counts instructions
+//!     bench calls NIGHT                      calls each side once on each kind, for a tool that counts instructions
 //!     bench counted NIGHT                    tables of instructions, from the counts on standard input in the order of `calls`
 //!     bench stack NIGHT                      stack of the deepest call
 mod kinds;
+#[allow(dead_code)]
+#[path = "../bindings/rust/src/sizes.rs"]
+mod sizes;
 
 use kinds::{Entry, Kind, GROWN, LENGTHS};
 use pep508_rs::{MarkerTree, MarkerWarningKind, PackageName, Requirement, VerbatimUrl};
+use sizes::{
+    COMPARISONS_SIZE, LINE_FIGURES, LIST_SIZE, MARKER_FIGURES, MAX_LINE, MAX_WORDS, NORMALISE_FIGURES, WARNINGS_SIZE,
+};
 use std::ffi::c_void;
 use std::hint::black_box;
 use std::io::Read;
@@ -18,27 +24,27 @@ extern "C" {
     fn hulmisker_line(
         line: *const u8,
         len: usize,
-        figures: *mut [usize; 12],
-        extras: *mut [usize; 64],
-        specifiers: *mut [usize; 64],
-        comparisons: *mut [usize; 320],
-        warnings: *mut [usize; 192],
-        words: *mut [u8; 127],
+        figures: *mut [usize; LINE_FIGURES],
+        extras: *mut [usize; LIST_SIZE],
+        specifiers: *mut [usize; LIST_SIZE],
+        comparisons: *mut [usize; COMPARISONS_SIZE],
+        warnings: *mut [usize; WARNINGS_SIZE],
+        words: *mut [u8; MAX_WORDS],
     ) -> u8;
     fn hulmisker_marker(
         line: *const u8,
         len: usize,
-        figures: *mut [usize; 5],
-        comparisons: *mut [usize; 320],
-        warnings: *mut [usize; 192],
-        words: *mut [u8; 127],
+        figures: *mut [usize; MARKER_FIGURES],
+        comparisons: *mut [usize; COMPARISONS_SIZE],
+        warnings: *mut [usize; WARNINGS_SIZE],
+        words: *mut [u8; MAX_WORDS],
     ) -> u8;
     fn hulmisker_normalise(
         name: *const u8,
         len: usize,
         out: *mut u8,
         room: usize,
-        figures: *mut [usize; 3],
+        figures: *mut [usize; NORMALISE_FIGURES],
     ) -> u8;
     fn stack_used(call: extern "C" fn(*mut c_void), argument: *mut c_void) -> usize;
     fn counting_starts();
@@ -47,25 +53,25 @@ extern "C" {
 
 /// The arrays that a caller lends. They are used again for each line.
 struct Lent {
-    figures: [usize; 12],
-    extras: [usize; 64],
-    specifiers: [usize; 64],
-    comparisons: [usize; 320],
-    warnings: [usize; 192],
-    words: [u8; 127],
-    out: [u8; 4096],
+    figures: [usize; LINE_FIGURES],
+    extras: [usize; LIST_SIZE],
+    specifiers: [usize; LIST_SIZE],
+    comparisons: [usize; COMPARISONS_SIZE],
+    warnings: [usize; WARNINGS_SIZE],
+    words: [u8; MAX_WORDS],
+    out: [u8; MAX_LINE],
 }
 
 impl Lent {
     fn new() -> Self {
         Self {
-            figures: [0; 12],
-            extras: [0; 64],
-            specifiers: [0; 64],
-            comparisons: [0; 320],
-            warnings: [0; 192],
-            words: [0; 127],
-            out: [0; 4096],
+            figures: [0; LINE_FIGURES],
+            extras: [0; LIST_SIZE],
+            specifiers: [0; LIST_SIZE],
+            comparisons: [0; COMPARISONS_SIZE],
+            warnings: [0; WARNINGS_SIZE],
+            words: [0; MAX_WORDS],
+            out: [0; MAX_LINE],
         }
     }
 }
@@ -73,8 +79,8 @@ impl Lent {
 /// Was the text accepted?
 fn ours_takes(entry: Entry, text: &str, lent: &mut Lent) -> bool {
     let (at, len) = (text.as_ptr(), text.len());
-    let mut few = [0; 5];
-    let mut three = [0; 3];
+    let mut few = [0; MARKER_FIGURES];
+    let mut three = [0; NORMALISE_FIGURES];
     // Safe: each pointer is to as much as the function's type says, and only ours.
     let number = unsafe {
         match entry {

@@ -1,5 +1,5 @@
 #!/usr/bin/env python3
-"""Compares the program `probe` with the Rust, with `packaging`, and with oracle/reference.py, on generated inputs.
+"""Compares `probe` with the Rust, with `packaging`, and with oracle/reference.py, on generated inputs.
 
     python3 oracle/compare.py SEED COUNT [--short LEVEL] [--corpus FILE] [--probe COMMAND] [--oracle FILE] [--no-reference]
 
@@ -30,7 +30,7 @@ except ImportError:
     packaging = None
 
 ROOT = generate.HERE.parent
-PROBE = shlex.quote(str(ROOT / "tools" / "run-program")) + " probe"
+PROBE = shlex.quote(str(ROOT / "tools" / "run")) + " probe"
 JOINTS = b".-_"
 SPACE = b"\t\n\v\f\r "
 
@@ -153,14 +153,14 @@ def pep503(name):
     return re.sub(rb"[-_.]+", b"-", name).lower()
 
 
-class Judge:
+class Comparer:
     """Says of one request whether our answer and the others' agree: 'agree', the name of a class, or None."""
 
     def __init__(self, oracle):
         self.oracle = oracle
         self.kinds = {}
 
-    def judged(self, entry, numbers, data, ours, rust):
+    def compared(self, entry, numbers, data, ours, rust):
         if entry in ("line", "extras", "marker"):
             return self.reader(entry, data, ours, rust)
         if entry in ("version", "pattern", "specifier"):
@@ -367,7 +367,7 @@ class Judge:
     # Programs
 
     def program(self, entry, numbers, data, ours):
-        refused = generate.PROGRAMS.judge(list(data), numbers[0])
+        refused = generate.PROGRAMS.refusal_of(list(data), numbers[0])
         if refused:
             return "agree" if refusal(ours) == refused else None
         if entry == "check":
@@ -418,19 +418,19 @@ def probed(command, batch):
     return answers
 
 
-def judged_all(requests, judge, probe, with_reference, size=20000):
+def compared_all(requests, comparer, probe, with_reference, size=20000):
     """(request, our answer, the Rust's answer, verdict) of each request, batch by batch."""
     bad = set(generate.bad_requests())
     for batch in batches(requests, size):
         answers = probed(probe, batch)
         asked = [text for text in batch if text not in bad and text.split(" ", 1)[0] not in ("check", "run")]
         questions = ["normalise " + text.split(" ")[2] if text.startswith("normalise") else text for text in asked]
-        rust = dict(zip(asked, judge.oracle.many(questions), strict=True))
+        rust = dict(zip(asked, comparer.oracle.many(questions), strict=True))
         for text, ours in zip(batch, answers):
             if text in bad:
                 verdict = "agree" if ours == "bad request" else None
             else:
-                verdict = judge.judged(*split(text), ours, rust.get(text))
+                verdict = comparer.compared(*split(text), ours, rust.get(text))
             if with_reference and probe != "reference" and reference.answer(text) != ours:
                 verdict = None
             yield text, ours, rust.get(text), verdict
@@ -439,7 +439,7 @@ def judged_all(requests, judge, probe, with_reference, size=20000):
 def main():
     parser = argparse.ArgumentParser(description="Compares the probe with the Rust.")
     generate.arguments(parser)
-    parser.add_argument("--probe", default=PROBE, metavar="COMMAND", help="default tools/run-program probe; 'reference' for reference.py")
+    parser.add_argument("--probe", default=PROBE, metavar="COMMAND", help="default tools/run probe; 'reference' for reference.py")
     parser.add_argument("--oracle", default=ROOT / "target" / "oracle" / "oracle", metavar="FILE",
                         help="default target/oracle/oracle, which build.sh makes")
     parser.add_argument("--no-reference", action="store_true", help="do not compare with reference.py as well")
@@ -447,11 +447,11 @@ def main():
     given = parser.parse_args()
     print("packaging %s" % packaging.__version__ if packaging else "packaging is not installed: versions are not compared with it")
     began = time.monotonic()
-    judge = Judge(Oracle(given.oracle))
+    comparer = Comparer(Oracle(given.oracle))
     entries, classes, smallest = collections.Counter(), collections.Counter(), {}
     differences = 0
     requests = generate.requests(given.seed, given.count, given.short, pathlib.Path(given.corpus))
-    for text, ours, rust, verdict in judged_all(requests, judge, given.probe, not given.no_reference):
+    for text, ours, rust, verdict in compared_all(requests, comparer, given.probe, not given.no_reference):
         entry = text.split(" ", 1)[0]
         entry = entry if entry in reference.ENTRIES and ours != "bad request" else "bad requests"
         entries[entry, "inputs"] += 1

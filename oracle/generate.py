@@ -1,5 +1,5 @@
 #!/usr/bin/env python3
-"""Makes inputs for the comparison: requests in the protocol of the program `probe`, one a line.
+"""Makes inputs for the comparison: requests in the protocol of `probe`, one a line.
 
     python3 oracle/generate.py SEED COUNT [--short LEVEL] [--corpus FILE] > requests
 
@@ -18,7 +18,7 @@ BOUND = 2**64 - 1
 
 
 def program_cases():
-    """crates/program_cases/make.py, which makes marker programs and judges them."""
+    """crates/program_cases/make.py, which makes marker programs and says what their check answers."""
     spec = importlib.util.spec_from_file_location("program_cases_make", HERE.parent / "crates" / "program_cases" / "make.py")
     module = importlib.util.module_from_spec(spec)
     spec.loader.exec_module(module)

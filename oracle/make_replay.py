@@ -1,5 +1,5 @@
 #!/usr/bin/env python3
-"""Makes the list that the program `replay` is run on: requests with their answers, on which the Rust and reference.py agree, or differ by a named class.
+"""Makes the list that `replay` is run on: requests with their answers, on which the Rust and reference.py agree, or differ by a named class.
 
     python3 oracle/make_replay.py [DIRECTORY] [--seed N] [--cases N]
 
@@ -62,9 +62,9 @@ def main():
     parser.add_argument("--cases", type=int, default=5500, help="how many at least (default 5500)")
     parser.add_argument("--oracle", default=compare.ROOT / "target" / "oracle" / "oracle", metavar="FILE")
     given = parser.parse_args()
-    judge = compare.Judge(compare.Oracle(given.oracle))
+    comparer = compare.Comparer(compare.Oracle(given.oracle))
     rows = []
-    for text, ours, _, verdict in compare.judged_all(generate.requests(given.seed, 40000, 0), judge, "reference", False):
+    for text, ours, _, verdict in compare.compared_all(generate.requests(given.seed, 40000, 0), comparer, "reference", False):
         if verdict is None:
             sys.exit("a difference on no list: %s" % text)
         if len(text) + len(ours) < 12000:

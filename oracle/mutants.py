@@ -111,11 +111,11 @@ def mutant(source, old, new):
 def main():
     seed, count = map(int, sys.argv[1:3]) if len(sys.argv) > 2 else (1, 3000)
     source = (generate.HERE / "reference.py").read_text()
-    judge = compare.Judge(compare.Oracle(compare.ROOT / "target" / "oracle" / "oracle"))
+    comparer = compare.Comparer(compare.Oracle(compare.ROOT / "target" / "oracle" / "oracle"))
     requests = list(generate.requests(seed, count, 0))
     random.Random(seed).shuffle(requests)
     # the unchanged reading, which also gives the Rust's answers
-    known = {text: rust for text, _, rust, verdict in compare.judged_all(requests, judge, "reference", False) if verdict}
+    known = {text: rust for text, _, rust, verdict in compare.compared_all(requests, comparer, "reference", False) if verdict}
     bad = set(generate.bad_requests())
     missed = 0
     for old, new in EDITS:
@@ -125,7 +125,7 @@ def main():
                 continue
             entry, numbers, data = compare.split(text)
             try:
-                verdict = judge.judged(entry, numbers, data, changed.answer(text), known[text])
+                verdict = comparer.compared(entry, numbers, data, changed.answer(text), known[text])
             except (IndexError, ValueError, TypeError, RecursionError):
                 verdict = None
             if verdict is None:

@@ -215,7 +215,7 @@ fn normalise(text: &str) -> Answer {
 }
 
 /// Versions, patterns and specifiers alone: stand-in only.
-fn judge<T: FromStr<Err = pep440_rs::VersionError>>(text: &str) -> Answer {
+fn text_answer<T: FromStr<Err = pep440_rs::VersionError>>(text: &str) -> Answer {
     match T::from_str(text) {
         Ok(_) => "{\"ok\":{}}".to_string(),
         Err(err) => refusal_without_span(&err.to_string()),
@@ -251,9 +251,9 @@ fn answer(input: &str) -> Answer {
         "extras" => extras,
         "marker" => marker,
         "normalise" => normalise,
-        "version" => judge::<Version>,
-        "pattern" => judge::<VersionPattern>,
-        "specifier" => judge::<VersionSpecifier>,
+        "version" => text_answer::<Version>,
+        "pattern" => text_answer::<VersionPattern>,
+        "specifier" => text_answer::<VersionSpecifier>,
         _ => return "{\"unknown\":true}".to_string(),
     };
     MarkerTree::restart_numbers();

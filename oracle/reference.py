@@ -1,5 +1,5 @@
 #!/usr/bin/env python3
-"""A plain reading of document 01 that answers the protocol of the program `probe`.
+"""A plain reading of document 01 that answers the protocol of `probe`.
 
     python3 oracle/reference.py < requests > answers
 
@@ -204,7 +204,7 @@ def read_url(line, at):
 
 def read_specifiers(line, start, ends):
     """The spans of the texts from `start` to a byte in `ends`, and where that byte stands; None if the line ends before it. At the end of the line
-    the last text is judged only if the end may close it, which is if `;` may."""
+    the last text is looked at only if the end may close it, which is if `;` may."""
     specifiers = []
     while True:
         end = until(line, start, ends + b",")
@@ -313,7 +313,7 @@ class Marker:
         operator, at = self.operator(skip(self.line, at))
         right_key, right_text, end = self.value(skip(self.line, at))
         span = (start, end - start)
-        kinds, kept = self.judged(left_key, left_text, operator, right_key, right_text)
+        kinds, kept = self.verdict(left_key, left_text, operator, right_key, right_text)
         for kind in kinds:
             if len(self.warnings) == MAX_KEPT:
                 raise Refused(27, *span)
@@ -325,7 +325,7 @@ class Marker:
         self.kept.append(kept)
         return [len(self.kept) - 1], end
 
-    def judged(self, left_key, left_text, operator, right_key, right_text):
+    def verdict(self, left_key, left_text, operator, right_key, right_text):
         """The kinds of the warnings, and the comparison if it is kept."""
         if left_key in VERSION_KEYS:
             if right_text is None:
@@ -452,7 +452,7 @@ def marker_entry(text):
     return "ok " + marker_words(read.kept, read.warnings, read.program)
 
 
-def judge(text, good):
+def text_entry(text, good):
     """A version, pattern or specifier alone."""
     check_text(text)
     if not good(text):
@@ -474,9 +474,9 @@ ENTRIES = {
     "line": line_entry,
     "extras": extras_entry,
     "marker": marker_entry,
-    "version": lambda text: judge(text, is_version),
-    "pattern": lambda text: judge(text, is_pattern),
-    "specifier": lambda text: judge(text, is_specifier),
+    "version": lambda text: text_entry(text, is_version),
+    "pattern": lambda text: text_entry(text, is_pattern),
+    "specifier": lambda text: text_entry(text, is_specifier),
     "normalise": normalise_entry,
     "check": check_entry,
     "run": lambda count, assignment, words: "ok yes" if run_program(count, assignment, words) else "ok no",

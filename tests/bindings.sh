@@ -33,12 +33,12 @@ try() {
 
 # try_output WHAT STATUS EXPECTED INPUT COMMAND..: the command must end with this status and write just the text of the file EXPECTED.
 try_output() {
-    program=$1 status=$2 expected=$3 input=$4
+    tried=$1 status=$2 expected=$3 input=$4
     shift 4
     "$@" <"$input" >"$out/written" 2>&1
     ended=$?
-    try "$program: status $ended, where $status is expected" [ "$ended" -eq "$status" ]
-    try "$program: other output than $expected" diff "$expected" "$out/written"
+    try "$tried: status $ended, where $status is expected" [ "$ended" -eq "$status" ]
+    try "$tried: other output than $expected" diff "$expected" "$out/written"
 }
 
 compile() { # NAME FLAG..
@@ -60,7 +60,7 @@ c_plain() {
     fi
 }
 
-# With sanitizers, if a program made with them runs here at all.
+# With sanitizers, if what is made with them runs here at all.
 c_sanitized() {
     echo 'int main(void) { return 0; }' >"$out/empty.c"
     checks="-g -O1 -fsanitize=undefined,address -fno-sanitize-recover=all"
@@ -123,6 +123,7 @@ command -v cc >/dev/null 2>&1 || stop "no command 'cc'"
 # rustup puts cargo where a plain PATH does not look.
 PATH=$PATH:${CARGO_HOME:-${HOME-}/.cargo}/bin
 mkdir -p "$out/nothing" || exit 2
+# Over what is proved this proves `gateway` alone once more: `rt staticlib` makes an archive of no proof but its own.
 tools/native-lib gateway >"$log" 2>&1 || {
     cat "$log" >&2
     stop "tools/native-lib gateway failed"

@@ -27,6 +27,14 @@ static void put_part(const char *what, const uint8_t *line, size_t start, size_t
     printf("'\n");
 }
 
+static void put_list(const char *what, const uint8_t *line, const size_t *spans, size_t count)
+{
+    for (size_t i = 0; i < count; i++) {
+        const size_t *span = spans + HULMISKER_SPAN_SIZE * i;
+        put_part(what, line, span[HULMISKER_SPAN_START], span[HULMISKER_SPAN_LEN]);
+    }
+}
+
 static void put_row(size_t start, size_t len)
 {
     for (size_t i = 0; i < start; i++)
@@ -51,14 +59,15 @@ static void put_marker(const uint8_t *line, const struct lists *found, uint64_t 
     size_t kept = found->figures[HULMISKER_LINE_COMPARISONS], words = found->figures[HULMISKER_LINE_WORDS];
     for (size_t i = 0; i < kept; i++) {
         const size_t *c = found->comparisons + HULMISKER_COMPARISON_SIZE * i;
-        printf("  %-10s %zu: %s, %s %s '", "comparison", i, hulmisker_sort_text(c[0]), hulmisker_key_text(c[1]), hulmisker_operator_text(c[2]));
-        put_bytes(line + c[3], c[4]);
+        printf("  %-10s %zu: %s, %s %s '", "comparison", i, hulmisker_sort_text(c[HULMISKER_COMPARISON_SORT]), hulmisker_key_text(c[HULMISKER_COMPARISON_KEY]),
+               hulmisker_operator_text(c[HULMISKER_COMPARISON_OPERATOR]));
+        put_bytes(line + c[HULMISKER_COMPARISON_START], c[HULMISKER_COMPARISON_LEN]);
         printf("'\n");
     }
     for (size_t i = 0; i < found->figures[HULMISKER_LINE_WARNINGS]; i++) {
         const size_t *w = found->warnings + HULMISKER_WARNING_SIZE * i;
-        printf("  %-10s %zu, %s: ", "warning", w[0], hulmisker_warning_text(w[0]));
-        put_bytes(line + w[1], w[2]);
+        printf("  %-10s %zu, %s: ", "warning", w[HULMISKER_WARNING_KIND], hulmisker_warning_text(w[HULMISKER_WARNING_KIND]));
+        put_bytes(line + w[HULMISKER_WARNING_START], w[HULMISKER_WARNING_LEN]);
         putchar('\n');
     }
     printf("  %-10s", "program");
@@ -87,10 +96,8 @@ static int show(const uint8_t *line, size_t len, uint64_t assignment)
     put_bytes(line, len);
     putchar('\n');
     put_part("name", line, f[HULMISKER_LINE_NAME_START], f[HULMISKER_LINE_NAME_LEN]);
-    for (size_t i = 0; i < f[HULMISKER_LINE_EXTRAS]; i++)
-        put_part("extra", line, found.extras[2 * i], found.extras[2 * i + 1]);
-    for (size_t i = 0; i < f[HULMISKER_LINE_SPECIFIERS]; i++)
-        put_part("specifier", line, found.specifiers[2 * i], found.specifiers[2 * i + 1]);
+    put_list("extra", line, found.extras, f[HULMISKER_LINE_EXTRAS]);
+    put_list("specifier", line, found.specifiers, f[HULMISKER_LINE_SPECIFIERS]);
     if (f[HULMISKER_LINE_HAS_URL])
         put_part("URL", line, f[HULMISKER_LINE_URL_START], f[HULMISKER_LINE_URL_LEN]);
     put_marker(line, &found, assignment);

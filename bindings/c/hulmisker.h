@@ -6,9 +6,10 @@
  *
  * What holds for every function:
  *
- * - It returns 0 if the input is accepted, else document 01's number of the refusal, 1 to 31 (enum hulmisker_refusal).
- * - It always writes all of `figures`. figures[0] and figures[1] are the start and the length of the refused span, and 0, 0 if nothing is refused. The
- *   figures behind them are what was found; on a refusal they are 0.
+ * - It returns 0 if the input is accepted, else document 01's number of the refusal, 1 to 31 (enum hulmisker_refusal). The numbers 32 to 41 are document 02's;
+ *   no function of this header gives one of them yet.
+ * - It always writes all of `figures`. The first two, HULMISKER_REFUSED_START and HULMISKER_REFUSED_LEN, are the start and the length of the refused span, and
+ *   0, 0 if nothing is refused. The figures behind them are what was found; on a refusal they are 0.
  * - Any other buffer is written on success alone, and there only at its front, as far as the counts say: what lies behind keeps its content. A
  *   refusal leaves every such buffer as it was.
  * - A span is a start and a length in bytes from the start of the lent text. Spans of what was found lie within it. A refused span may point one past
@@ -48,26 +49,45 @@ enum {
     HULMISKER_STACK = 32768          /* bytes of stack, see above */
 };
 
+/*
+ * How many numbers stand for a span, a comparison and a warning in a list of them, and where in it each of these stands. Item k of a list starts at k times
+ * the size of its items.
+ */
+enum {
+    HULMISKER_SPAN_SIZE = 2,
+    HULMISKER_SPAN_START = 0,
+    HULMISKER_SPAN_LEN = 1,
+
+    HULMISKER_COMPARISON_SIZE = 5,
+    HULMISKER_COMPARISON_SORT = 0,
+    HULMISKER_COMPARISON_KEY = 1,
+    HULMISKER_COMPARISON_OPERATOR = 2,
+    HULMISKER_COMPARISON_START = 3,  /* the literal, without its quotes */
+    HULMISKER_COMPARISON_LEN = 4,
+
+    HULMISKER_WARNING_SIZE = 3,
+    HULMISKER_WARNING_KIND = 0,
+    HULMISKER_WARNING_START = 1,
+    HULMISKER_WARNING_LEN = 2
+};
+
 /* Sizes of the buffers, in elements. */
 enum {
-    HULMISKER_SPAN_SIZE = 2,         /* start, length */
-    HULMISKER_COMPARISON_SIZE = 5,   /* sort, key, operator, literal's start, literal's length */
-    HULMISKER_WARNING_SIZE = 3,      /* kind, start, length */
-    HULMISKER_EXTRAS_SIZE = 64,
-    HULMISKER_SPECIFIERS_SIZE = 64,
-    HULMISKER_COMPARISONS_SIZE = 320,
-    HULMISKER_WARNINGS_SIZE = 192,
-    HULMISKER_WORDS_SIZE = 127,
+    HULMISKER_EXTRAS_SIZE = HULMISKER_MAX_LIST * HULMISKER_SPAN_SIZE,
+    HULMISKER_SPECIFIERS_SIZE = HULMISKER_MAX_LIST * HULMISKER_SPAN_SIZE,
+    HULMISKER_COMPARISONS_SIZE = HULMISKER_MAX_COMPARISONS * HULMISKER_COMPARISON_SIZE,
+    HULMISKER_WARNINGS_SIZE = HULMISKER_MAX_WARNINGS * HULMISKER_WARNING_SIZE,
+    HULMISKER_WORDS_SIZE = HULMISKER_MAX_WORDS,
     HULMISKER_LINE_FIGURES = 12,
     HULMISKER_EXTRAS_FIGURES = 3,
     HULMISKER_MARKER_FIGURES = 5,
-    HULMISKER_JUDGED_FIGURES = 2,    /* hulmisker_version, hulmisker_pattern, hulmisker_specifier */
+    HULMISKER_VERSION_FIGURES = 2,   /* of hulmisker_pattern and hulmisker_specifier too */
     HULMISKER_NORMALISE_FIGURES = 3,
     HULMISKER_CHECK_FIGURES = 2,
     HULMISKER_RUN_FIGURES = 3
 };
 
-/* Document 01's refusals, by their numbers. */
+/* Document 01's refusals by their numbers, and from 32 on document 02's, which no function gives yet. */
 enum hulmisker_refusal {
     HULMISKER_ACCEPTED = 0,
     HULMISKER_TOO_LONG = 1,
@@ -100,7 +120,17 @@ enum hulmisker_refusal {
     HULMISKER_NAME_BAD = 28,
     HULMISKER_OUTPUT_SHORT = 29,
     HULMISKER_PROGRAM_BAD = 30,
-    HULMISKER_COUNT_OVER = 31
+    HULMISKER_COUNT_OVER = 31,
+    HULMISKER_SEGMENTS_MANY = 32,
+    HULMISKER_TEXT_ENDED = 33,
+    HULMISKER_NUMBER_REPEATED = 34,
+    HULMISKER_RECORD_BAD = 35,
+    HULMISKER_LINES_MANY = 36,
+    HULMISKER_CABINET_BAD = 37,
+    HULMISKER_CLAIM_WRONG = 38,
+    HULMISKER_CLAIM_OUTSIDE = 39,
+    HULMISKER_CLAIM_OPEN = 40,
+    HULMISKER_PIECE_LONG = 41
 };
 
 /* Indices of the figures. The first two are the same for every function. */
@@ -189,52 +219,55 @@ enum {
 /*
  * A requirement line: a name, extras, then specifiers or a URL, then a marker. Refusals 1 to 27.
  *
- * figures[2..11]: HULMISKER_LINE_NAME_START to HULMISKER_LINE_WORDS. A line without a marker has no comparison and the program 66.
+ * The figures behind the first two: HULMISKER_LINE_NAME_START to HULMISKER_LINE_WORDS. A line without a marker has no comparison and the program 66.
  */
-uint8_t hulmisker_line(const uint8_t *line, size_t line_len, size_t figures[12], size_t extras[64], size_t specifiers[64], size_t comparisons[320],
-                       size_t warnings[192], uint8_t words[127]);
+uint8_t hulmisker_line(const uint8_t *line, size_t line_len, size_t figures[HULMISKER_LINE_FIGURES], size_t extras[HULMISKER_EXTRAS_SIZE],
+                       size_t specifiers[HULMISKER_SPECIFIERS_SIZE], size_t comparisons[HULMISKER_COMPARISONS_SIZE], size_t warnings[HULMISKER_WARNINGS_SIZE],
+                       uint8_t words[HULMISKER_WORDS_SIZE]);
 
 /*
  * Extras alone: what follows the closing bracket is not looked at, and text without a leading `[` has no extras. Refusals 1, 2 and 6 to 12.
  *
- * figures[2]: how many extras.
+ * figures[HULMISKER_EXTRAS_COUNT]: how many extras.
  */
-uint8_t hulmisker_extras(const uint8_t *line, size_t line_len, size_t figures[3], size_t extras[64]);
+uint8_t hulmisker_extras(const uint8_t *line, size_t line_len, size_t figures[HULMISKER_EXTRAS_FIGURES], size_t extras[HULMISKER_EXTRAS_SIZE]);
 
 /*
  * A marker alone. Refusals 1, 2 and 18 to 27.
  *
- * figures[2], [3], [4]: how many comparisons are kept, how many warnings, how many words. The program passes hulmisker_check for the count of
- * comparisons, which are numbered from 0 as they stand in `comparisons`. A comparison that is ignored is not in the program; if all are, it is the one word 66.
+ * The figures behind the first two, HULMISKER_MARKER_COMPARISONS to HULMISKER_MARKER_WORDS: how many comparisons are kept, how many warnings, how many words. The
+ * program passes hulmisker_check for the count of comparisons, which are numbered from 0 as they stand in `comparisons`. A comparison that is ignored is
+ * not in the program; if all are, it is the one word 66.
  */
-uint8_t hulmisker_marker(const uint8_t *line, size_t line_len, size_t figures[5], size_t comparisons[320], size_t warnings[192], uint8_t words[127]);
+uint8_t hulmisker_marker(const uint8_t *line, size_t line_len, size_t figures[HULMISKER_MARKER_FIGURES], size_t comparisons[HULMISKER_COMPARISONS_SIZE],
+                         size_t warnings[HULMISKER_WARNINGS_SIZE], uint8_t words[HULMISKER_WORDS_SIZE]);
 
 /* A version, by PEP 440's Appendix B. Refusals 1, 2 and 14. */
-uint8_t hulmisker_version(const uint8_t *text, size_t text_len, size_t figures[2]);
+uint8_t hulmisker_version(const uint8_t *text, size_t text_len, size_t figures[HULMISKER_VERSION_FIGURES]);
 
 /* A version, or epoch and release and `.*`. Refusals 1, 2 and 14. */
-uint8_t hulmisker_pattern(const uint8_t *text, size_t text_len, size_t figures[2]);
+uint8_t hulmisker_pattern(const uint8_t *text, size_t text_len, size_t figures[HULMISKER_VERSION_FIGURES]);
 
 /* An operator and a version or pattern that may go with it. Refusals 1, 2 and 14. */
-uint8_t hulmisker_specifier(const uint8_t *text, size_t text_len, size_t figures[2]);
+uint8_t hulmisker_specifier(const uint8_t *text, size_t text_len, size_t figures[HULMISKER_VERSION_FIGURES]);
 
 /*
  * The normal form of a name, at the front of `out`, with no 0 behind it. A normal form is never longer than its name; the name may have any length.
  * Refusals 28 and 29: `out` is then as it was.
  *
- * figures[2]: the length of the normal form.
+ * figures[HULMISKER_NORMALISE_LEN]: the length of the normal form.
  */
-uint8_t hulmisker_normalise(const uint8_t *name, size_t name_len, uint8_t *out, size_t out_len, size_t figures[3]);
+uint8_t hulmisker_normalise(const uint8_t *name, size_t name_len, uint8_t *out, size_t out_len, size_t figures[HULMISKER_NORMALISE_FIGURES]);
 
 /* Whether a program may be run with `count` comparisons. Refusals 31 and 30, whose start is the number of a word. */
-uint8_t hulmisker_check(const uint8_t *program, size_t program_len, size_t count, size_t figures[2]);
+uint8_t hulmisker_check(const uint8_t *program, size_t program_len, size_t count, size_t figures[HULMISKER_CHECK_FIGURES]);
 
 /*
  * Checks a program as hulmisker_check does and runs it: bit k of `assignment` says whether comparison k holds. Bits from `count` up have no effect.
  *
- * figures[2]: 1 for yes, 0 for no.
+ * figures[HULMISKER_RUN_ANSWER]: 1 for yes, 0 for no.
  */
-uint8_t hulmisker_run(const uint8_t *program, size_t program_len, size_t count, uint64_t assignment, size_t figures[3]);
+uint8_t hulmisker_run(const uint8_t *program, size_t program_len, size_t count, uint64_t assignment, size_t figures[HULMISKER_RUN_FIGURES]);
 
 /* The rest of this file is not proved: it spells out numbers. */
 
@@ -274,6 +307,16 @@ static inline const char *hulmisker_refusal_text(unsigned number)
     case HULMISKER_OUTPUT_SHORT: return "the output is shorter than the normal form";
     case HULMISKER_PROGRAM_BAD: return "the program breaks a stack rule";
     case HULMISKER_COUNT_OVER: return "the count of comparisons is over 64";
+    case HULMISKER_SEGMENTS_MANY: return "a version with over 16 release or 8 local segments is compared";
+    case HULMISKER_TEXT_ENDED: return "the text has ended, and is not restarted";
+    case HULMISKER_NUMBER_REPEATED: return "a comparison number more than once in a program to be explained";
+    case HULMISKER_RECORD_BAD: return "a record out of order, or a field that no line gives";
+    case HULMISKER_LINES_MANY: return "over 4294967295 lines";
+    case HULMISKER_CABINET_BAD: return "a cabinet is made of its variable texts and its extras in normal form";
+    case HULMISKER_CLAIM_WRONG: return "the claimed answer is not the one judged";
+    case HULMISKER_CLAIM_OUTSIDE: return "the claimed set has a number that is not below the count";
+    case HULMISKER_CLAIM_OPEN: return "the claimed set does not fix the answer";
+    case HULMISKER_PIECE_LONG: return "the piece is over 512 bytes";
     default: return "no refusal has this number";
     }
 }

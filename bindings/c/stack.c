@@ -17,8 +17,9 @@ static uint8_t *stack;
 static size_t untouched, base;
 static void (*call)(void);
 static const char *text;
-static size_t figures[12], extras[64], specifiers[64], comparisons[320], warnings[192];
-static uint8_t words[127], out[5000];
+static size_t figures[HULMISKER_LINE_FIGURES], extras[HULMISKER_EXTRAS_SIZE], specifiers[HULMISKER_SPECIFIERS_SIZE];
+static size_t comparisons[HULMISKER_COMPARISONS_SIZE], warnings[HULMISKER_WARNINGS_SIZE];
+static uint8_t words[HULMISKER_WORDS_SIZE], out[5000];
 
 static void a_line(void) { hulmisker_line((const uint8_t *)text, strlen(text), figures, extras, specifiers, comparisons, warnings, words); }
 static void a_marker(void) { hulmisker_marker((const uint8_t *)text, strlen(text), figures, comparisons, warnings, words); }
@@ -27,8 +28,8 @@ static void a_version(void) { hulmisker_version((const uint8_t *)text, strlen(te
 static void a_pattern(void) { hulmisker_pattern((const uint8_t *)text, strlen(text), figures); }
 static void a_specifier(void) { hulmisker_specifier((const uint8_t *)text, strlen(text), figures); }
 static void a_name(void) { hulmisker_normalise((const uint8_t *)text, strlen(text), out, sizeof out, figures); }
-static void a_check(void) { hulmisker_check(words, 127, 64, figures); }
-static void a_run(void) { hulmisker_run(words, 127, 64, 1, figures); }
+static void a_check(void) { hulmisker_check(words, sizeof words, HULMISKER_MAX_COMPARISONS, figures); }
+static void a_run(void) { hulmisker_run(words, sizeof words, HULMISKER_MAX_COMPARISONS, 1, figures); }
 
 static void *measured(void *none)
 {

@@ -13,7 +13,7 @@
 #include <string.h>
 
 static unsigned failed, tried;
-static unsigned char met[32]; /* which refusals were seen */
+static unsigned char met[HULMISKER_COUNT_OVER + 1]; /* which refusals were seen */
 
 static void expect(int good, const char *what, const char *input, const char *got, const char *wanted)
 {
@@ -44,26 +44,32 @@ static void say(const char *form, ...)
 
 static void say_refusal(uint8_t number, const size_t *figures)
 {
-    if (number < 32)
+    expect(number < sizeof met, "a refusal's number", "some text", "a number that no function gives", "0 to 31");
+    if (number < sizeof met)
         met[number] = 1;
-    say("%u at %zu, %zu", (unsigned)number, figures[0], figures[1]);
+    say("%u at %zu, %zu", (unsigned)number, figures[HULMISKER_REFUSED_START], figures[HULMISKER_REFUSED_LEN]);
 }
 
 static void say_spans(const char *name, const char *text, const size_t *spans, size_t count)
 {
     say(" %s", name);
-    for (size_t i = 0; i < count; i++)
-        say("{%.*s}", (int)spans[2 * i + 1], text + spans[2 * i]);
+    for (size_t i = 0; i < count; i++) {
+        const size_t *span = spans + HULMISKER_SPAN_SIZE * i;
+        say("{%.*s}", (int)span[HULMISKER_SPAN_LEN], text + span[HULMISKER_SPAN_START]);
+    }
 }
 
 static void say_marker(const char *text, const size_t *comparisons, size_t kept, const size_t *warnings, size_t warned, const uint8_t *words, size_t count)
 {
     for (size_t i = 0; i < kept; i++) {
-        const size_t *c = comparisons + 5 * i;
-        say(" (%zu %zu %zu {%.*s})", c[0], c[1], c[2], (int)c[4], text + c[3]);
+        const size_t *c = comparisons + HULMISKER_COMPARISON_SIZE * i;
+        say(" (%zu %zu %zu {%.*s})", c[HULMISKER_COMPARISON_SORT], c[HULMISKER_COMPARISON_KEY], c[HULMISKER_COMPARISON_OPERATOR],
+            (int)c[HULMISKER_COMPARISON_LEN], text + c[HULMISKER_COMPARISON_START]);
     }
-    for (size_t i = 0; i < warned; i++)
-        say(" warning %zu at %zu, %zu", warnings[3 * i], warnings[3 * i + 1], warnings[3 * i + 2]);
+    for (size_t i = 0; i < warned; i++) {
+        const size_t *w = warnings + HULMISKER_WARNING_SIZE * i;
+        say(" warning %zu at %zu, %zu", w[HULMISKER_WARNING_KIND], w[HULMISKER_WARNING_START], w[HULMISKER_WARNING_LEN]);
+    }
     say(" words");
     for (size_t i = 0; i < count; i++)
         say(" %u", (unsigned)words[i]);
@@ -72,17 +78,17 @@ static void say_marker(const char *text, const size_t *comparisons, size_t kept,
 /* The buffers of all functions, with room around each. */
 struct room {
     size_t r0[4];
-    size_t figures[12];
+    size_t figures[HULMISKER_LINE_FIGURES];
     size_t r1[4];
-    size_t extras[64];
+    size_t extras[HULMISKER_EXTRAS_SIZE];
     size_t r2[4];
-    size_t specifiers[64];
+    size_t specifiers[HULMISKER_SPECIFIERS_SIZE];
     size_t r3[4];
-    size_t comparisons[320];
+    size_t comparisons[HULMISKER_COMPARISONS_SIZE];
     size_t r4[4];
-    size_t warnings[192];
+    size_t warnings[HULMISKER_WARNINGS_SIZE];
     size_t r5[4];
-    uint8_t words[127];
+    uint8_t words[HULMISKER_WORDS_SIZE];
     uint8_t r6[33];
 };
 
@@ -104,12 +110,14 @@ static size_t all_pattern(const void *from, const void *to)
     return 1;
 }
 
-/* Whether nothing changed but so many figures and so many elements of each list. */
+/* Whether nothing changed but so many figures and so many items of each list. */
 static void kept_rest(const char *what, const char *input, size_t figures, size_t extras, size_t specifiers, size_t comparisons, size_t warnings, size_t words)
 {
-    int good = all_pattern(&room, room.figures) && all_pattern(room.figures + figures, room.extras) && all_pattern(room.extras + extras, room.specifiers) &&
-               all_pattern(room.specifiers + specifiers, room.comparisons) && all_pattern(room.comparisons + comparisons, room.warnings) &&
-               all_pattern(room.warnings + warnings, room.words) && all_pattern(room.words + words, &room + 1);
+    int good = all_pattern(&room, room.figures) && all_pattern(room.figures + figures, room.extras) &&
+               all_pattern(room.extras + HULMISKER_SPAN_SIZE * extras, room.specifiers) &&
+               all_pattern(room.specifiers + HULMISKER_SPAN_SIZE * specifiers, room.comparisons) &&
+               all_pattern(room.comparisons + HULMISKER_COMPARISON_SIZE * comparisons, room.warnings) &&
+               all_pattern(room.warnings + HULMISKER_WARNING_SIZE * warnings, room.words) && all_pattern(room.words + words, &room + 1);
     expect(good, what, input, "a buffer has changed where it must not", "every other byte as it was");
 }
 
@@ -130,6 +138,12 @@ static void release(uint8_t *copy, const char *text, size_t len)
     free(copy);
 }
 
+/* The first two figures where nothing is refused. */
+static void expect_no_place(const char *what, const char *input)
+{
+    expect(room.figures[HULMISKER_REFUSED_START] == 0 && room.figures[HULMISKER_REFUSED_LEN] == 0, what, input, "a place", "0, 0");
+}
+
 static void line_n(const char *text, size_t len, const char *wanted)
 {
     uint8_t *copy = exact(text, len);
@@ -138,22 +152,23 @@ static void line_n(const char *text, size_t len, const char *wanted)
     uint8_t number = hulmisker_line(copy, len, room.figures, room.extras, room.specifiers, room.comparisons, room.warnings, room.words);
     if (number) {
         say_refusal(number, f);
-        for (int i = 2; i < 12; i++)
+        for (int i = HULMISKER_LINE_NAME_START; i < HULMISKER_LINE_FIGURES; i++)
             expect(f[i] == 0, "a figure of a refused line", text, "not 0", "0");
-        kept_rest("hulmisker_line", text, 12, 0, 0, 0, 0, 0);
     } else {
-        expect(f[0] == 0 && f[1] == 0, "the first figures of an accepted line", text, "not 0, 0", "0, 0");
-        expect(f[4] == 1 || (f[4] == 0 && f[5] == 0 && f[6] == 0), "the URL's figures", text, "others", "1 and a span, or three times 0");
-        say("{%.*s}", (int)f[3], text + f[2]);
-        if (f[7])
-            say_spans("extras", text, room.extras, f[7]);
-        if (f[8])
-            say_spans("specifiers", text, room.specifiers, f[8]);
-        if (f[4])
-            say(" url{%.*s}", (int)f[6], text + f[5]);
-        say_marker(text, room.comparisons, f[9], room.warnings, f[10], room.words, f[11]);
-        kept_rest("hulmisker_line", text, 12, 2 * f[7], 2 * f[8], 5 * f[9], 3 * f[10], f[11]);
+        size_t has_url = f[HULMISKER_LINE_HAS_URL], url = f[HULMISKER_LINE_URL_START], url_len = f[HULMISKER_LINE_URL_LEN];
+        expect_no_place("the first figures of an accepted line", text);
+        expect(has_url == 1 || (has_url == 0 && url == 0 && url_len == 0), "the URL's figures", text, "others", "1 and a span, or three times 0");
+        say("{%.*s}", (int)f[HULMISKER_LINE_NAME_LEN], text + f[HULMISKER_LINE_NAME_START]);
+        if (f[HULMISKER_LINE_EXTRAS])
+            say_spans("extras", text, room.extras, f[HULMISKER_LINE_EXTRAS]);
+        if (f[HULMISKER_LINE_SPECIFIERS])
+            say_spans("specifiers", text, room.specifiers, f[HULMISKER_LINE_SPECIFIERS]);
+        if (has_url)
+            say(" url{%.*s}", (int)url_len, text + url);
+        say_marker(text, room.comparisons, f[HULMISKER_LINE_COMPARISONS], room.warnings, f[HULMISKER_LINE_WARNINGS], room.words, f[HULMISKER_LINE_WORDS]);
     }
+    kept_rest("hulmisker_line", text, HULMISKER_LINE_FIGURES, f[HULMISKER_LINE_EXTRAS], f[HULMISKER_LINE_SPECIFIERS], f[HULMISKER_LINE_COMPARISONS],
+              f[HULMISKER_LINE_WARNINGS], f[HULMISKER_LINE_WORDS]);
     expect(strcmp(answer, wanted) == 0, "hulmisker_line", text, answer, wanted);
     release(copy, text, len);
 }
@@ -170,12 +185,12 @@ static void extras_n(const char *text, size_t len, const char *wanted)
     uint8_t number = hulmisker_extras(copy, len, room.figures, room.extras);
     if (number) {
         say_refusal(number, room.figures);
-        expect(room.figures[2] == 0, "the count of refused extras", text, "not 0", "0");
+        expect(room.figures[HULMISKER_EXTRAS_COUNT] == 0, "the count of refused extras", text, "not 0", "0");
     } else {
-        expect(room.figures[0] == 0 && room.figures[1] == 0, "the first figures of accepted extras", text, "not 0, 0", "0, 0");
-        say_spans("extras", text, room.extras, room.figures[2]);
+        expect_no_place("the first figures of accepted extras", text);
+        say_spans("extras", text, room.extras, room.figures[HULMISKER_EXTRAS_COUNT]);
     }
-    kept_rest("hulmisker_extras", text, 3, 2 * room.figures[2], 0, 0, 0, 0);
+    kept_rest("hulmisker_extras", text, HULMISKER_EXTRAS_FIGURES, room.figures[HULMISKER_EXTRAS_COUNT], 0, 0, 0, 0);
     expect(strcmp(answer, wanted) == 0, "hulmisker_extras", text, answer, wanted);
     release(copy, text, len);
 }
@@ -188,19 +203,19 @@ static void extras(const char *text, const char *wanted)
 static void marker_n(const char *text, size_t len, const char *wanted)
 {
     uint8_t *copy = exact(text, len);
-    const size_t *f = room.figures;
     lend();
     uint8_t number = hulmisker_marker(copy, len, room.figures, room.comparisons, room.warnings, room.words);
+    size_t kept = room.figures[HULMISKER_MARKER_COMPARISONS], warned = room.figures[HULMISKER_MARKER_WARNINGS], words = room.figures[HULMISKER_MARKER_WORDS];
     if (number) {
-        say_refusal(number, f);
-        expect(f[2] == 0 && f[3] == 0 && f[4] == 0, "the counts of a refused marker", text, "not 0", "0");
+        say_refusal(number, room.figures);
+        expect(kept == 0 && warned == 0 && words == 0, "the counts of a refused marker", text, "not 0", "0");
     } else {
-        expect(f[0] == 0 && f[1] == 0, "the first figures of an accepted marker", text, "not 0, 0", "0, 0");
-        say_marker(text, room.comparisons, f[2], room.warnings, f[3], room.words, f[4]);
-        size_t place[2] = {9, 9};
-        expect(hulmisker_check(room.words, f[4], f[2], place) == 0, "the check of an accepted marker's program", text, "refused", "passed");
+        expect_no_place("the first figures of an accepted marker", text);
+        say_marker(text, room.comparisons, kept, room.warnings, warned, room.words, words);
+        size_t place[HULMISKER_CHECK_FIGURES] = {9, 9};
+        expect(hulmisker_check(room.words, words, kept, place) == 0, "the check of an accepted marker's program", text, "refused", "passed");
     }
-    kept_rest("hulmisker_marker", text, 5, 0, 0, 5 * f[2], 3 * f[3], f[4]);
+    kept_rest("hulmisker_marker", text, HULMISKER_MARKER_FIGURES, 0, 0, kept, warned, words);
     if (wanted)
         expect(strcmp(answer, wanted) == 0, "hulmisker_marker", text, answer, wanted);
     release(copy, text, len);
@@ -211,22 +226,22 @@ static void marker(const char *text, const char *wanted)
     marker_n(text, strlen(text), wanted);
 }
 
-typedef uint8_t judge(const uint8_t *text, size_t text_len, size_t figures[2]);
+typedef uint8_t version_check(const uint8_t *text, size_t text_len, size_t figures[HULMISKER_VERSION_FIGURES]);
 
-static void judged_n(judge *by, const char *name, const char *text, size_t len, const char *wanted)
+static void version_n(version_check *by, const char *name, const char *text, size_t len, const char *wanted)
 {
     uint8_t *copy = exact(text, len);
     lend();
     uint8_t number = by(copy, len, room.figures);
     say_refusal(number, room.figures);
-    kept_rest(name, text, 2, 0, 0, 0, 0, 0);
+    kept_rest(name, text, HULMISKER_VERSION_FIGURES, 0, 0, 0, 0, 0);
     expect(strcmp(answer, wanted) == 0, name, text, answer, wanted);
     release(copy, text, len);
 }
 
-static void judged(judge *by, const char *name, const char *text, const char *wanted)
+static void version(version_check *by, const char *name, const char *text, const char *wanted)
 {
-    judged_n(by, name, text, strlen(text), wanted);
+    version_n(by, name, text, strlen(text), wanted);
 }
 
 static void normalise(const char *name, size_t room_len, const char *wanted)
@@ -238,16 +253,16 @@ static void normalise(const char *name, size_t room_len, const char *wanted)
     memset(out, PATTERN, room_len + 1);
     lend();
     uint8_t number = hulmisker_normalise(copy, len, out, room_len, room.figures);
-    size_t written = room.figures[2];
+    size_t written = room.figures[HULMISKER_NORMALISE_LEN];
     if (number) {
         say_refusal(number, room.figures);
         expect(written == 0, "the length of a refused name", name, "not 0", "0");
     } else {
-        expect(room.figures[0] == 0 && room.figures[1] == 0, "the first figures of an accepted name", name, "not 0, 0", "0, 0");
+        expect_no_place("the first figures of an accepted name", name);
         say("%.*s", (int)written, (const char *)out);
     }
     expect(all_pattern(out + written, out + room_len + 1), "hulmisker_normalise", name, "the output changed behind the normal form", "unchanged");
-    kept_rest("hulmisker_normalise", name, 3, 0, 0, 0, 0, 0);
+    kept_rest("hulmisker_normalise", name, HULMISKER_NORMALISE_FIGURES, 0, 0, 0, 0, 0);
     expect(strcmp(answer, wanted) == 0, "hulmisker_normalise", name, answer, wanted);
     free(out);
     release(copy, name, len);
@@ -259,7 +274,7 @@ static void check(const uint8_t *program, size_t len, size_t count, const char *
     lend();
     uint8_t number = hulmisker_check(copy, len, count, room.figures);
     say_refusal(number, room.figures);
-    kept_rest("hulmisker_check", "a program", 2, 0, 0, 0, 0, 0);
+    kept_rest("hulmisker_check", "a program", HULMISKER_CHECK_FIGURES, 0, 0, 0, 0, 0);
     expect(strcmp(answer, wanted) == 0, "hulmisker_check", "a program", answer, wanted);
     release(copy, (const char *)program, len);
 }
@@ -269,14 +284,16 @@ static void run(const uint8_t *program, size_t len, size_t count, uint64_t assig
     uint8_t *copy = exact((const char *)program, len);
     lend();
     uint8_t number = hulmisker_run(copy, len, count, assignment, room.figures);
+    size_t yes = room.figures[HULMISKER_RUN_ANSWER];
     if (number) {
         say_refusal(number, room.figures);
-        expect(room.figures[2] == 0, "the answer of a refused program", "a program", "not 0", "0");
+        expect(yes == 0, "the answer of a refused program", "a program", "not 0", "0");
     } else {
-        expect(room.figures[0] == 0 && room.figures[1] == 0 && room.figures[2] <= 1, "the figures of a run", "a program", "others", "0, 0 and 0 or 1");
-        say(room.figures[2] ? "yes" : "no");
+        expect_no_place("the first figures of a run", "a program");
+        expect(yes <= 1, "the answer of a run", "a program", "another", "0 or 1");
+        say(yes ? "yes" : "no");
     }
-    kept_rest("hulmisker_run", "a program", 3, 0, 0, 0, 0, 0);
+    kept_rest("hulmisker_run", "a program", HULMISKER_RUN_FIGURES, 0, 0, 0, 0, 0);
     expect(strcmp(answer, wanted) == 0, "hulmisker_run", "a program", answer, wanted);
     release(copy, (const char *)program, len);
 }
@@ -360,6 +377,14 @@ static void lines(void)
     line("a;os_name=='b' c", "24 at 15, 0");
 }
 
+/* The counts that the marker made last left in the figures. */
+static void counts(const char *what, size_t kept, size_t warned, size_t words)
+{
+    int good = room.figures[HULMISKER_MARKER_COMPARISONS] == kept && room.figures[HULMISKER_MARKER_WARNINGS] == warned &&
+               room.figures[HULMISKER_MARKER_WORDS] == words;
+    expect(good, what, made, "other counts", "as many as there is place for");
+}
+
 static void limits(void)
 {
     static const char one[] = " (2 3 0 {a}) words 0";
@@ -369,12 +394,12 @@ static void limits(void)
     extras(repeat("[a]", " ", "", 4093, ""), " extras{a}");
     marker(repeat("os_name=='a'", " ", "", 4085, ""), "1 at 4096, 1");
     marker(repeat("os_name=='a'", " ", "", 4084, ""), one);
-    judged(hulmisker_version, "hulmisker_version", repeat("1", " ", "", 4096, ""), "1 at 4096, 1");
-    judged(hulmisker_version, "hulmisker_version", repeat("1", " ", "", 4095, ""), "0 at 0, 0");
-    judged(hulmisker_pattern, "hulmisker_pattern", repeat("1.*", " ", "", 4094, ""), "1 at 4096, 1");
-    judged(hulmisker_pattern, "hulmisker_pattern", repeat("1.*", " ", "", 4093, ""), "0 at 0, 0");
-    judged(hulmisker_specifier, "hulmisker_specifier", repeat(">1", " ", "", 4095, ""), "1 at 4096, 1");
-    judged(hulmisker_specifier, "hulmisker_specifier", repeat(">1", " ", "", 4094, ""), "0 at 0, 0");
+    version(hulmisker_version, "hulmisker_version", repeat("1", " ", "", 4096, ""), "1 at 4096, 1");
+    version(hulmisker_version, "hulmisker_version", repeat("1", " ", "", 4095, ""), "0 at 0, 0");
+    version(hulmisker_pattern, "hulmisker_pattern", repeat("1.*", " ", "", 4094, ""), "1 at 4096, 1");
+    version(hulmisker_pattern, "hulmisker_pattern", repeat("1.*", " ", "", 4093, ""), "0 at 0, 0");
+    version(hulmisker_specifier, "hulmisker_specifier", repeat(">1", " ", "", 4095, ""), "1 at 4096, 1");
+    version(hulmisker_specifier, "hulmisker_specifier", repeat(">1", " ", "", 4094, ""), "0 at 0, 0");
 
     static const char many[] = "{a}{a}{a}{a}{a}{a}{a}{a}{a}{a}{a}{a}{a}{a}{a}{a}{a}{a}{a}{a}{a}{a}{a}{a}{a}{a}{a}{a}{a}{a}{a}{a}";
     char wanted[256];
@@ -393,13 +418,14 @@ static void limits(void)
     line(repeat("a;", "(", "", 17, "os_name=='a')))))))))))))))))"), "25 at 18, 1");
 
     marker(repeat("", "os_name=='a'", " or ", 64, ""), NULL);
-    expect(room.figures[2] == 64 && room.figures[3] == 0 && room.figures[4] == 127, "64 comparisons", made, "other counts", "64, 0, 127");
-    expect(room.words[126] == HULMISKER_WORD_OR && room.comparisons[319] == 1, "64 comparisons", made, "other numbers at the ends", "65, 1");
+    counts("64 comparisons", HULMISKER_MAX_COMPARISONS, 0, HULMISKER_MAX_WORDS);
+    expect(room.words[HULMISKER_WORDS_SIZE - 1] == HULMISKER_WORD_OR && room.comparisons[HULMISKER_COMPARISONS_SIZE - 1] == 1, "64 comparisons", made,
+           "other numbers at the ends", "65, 1");
     marker(repeat("", "os_name=='a'", " or ", 65, ""), "26 at 1024, 12");
     line(repeat("a;", "os_name=='a'", " or ", 65, ""), "26 at 1026, 12");
     marker(repeat("", "'a'=='b'", " or ", 64, ""), NULL);
-    expect(room.figures[2] == 0 && room.figures[3] == 64 && room.figures[4] == 1, "64 warnings", made, "other counts", "0, 64, 1");
-    expect(room.words[0] == HULMISKER_WORD_YES && room.warnings[191] == 8, "64 warnings", made, "other numbers at the ends", "66, 8");
+    counts("64 warnings", 0, HULMISKER_MAX_WARNINGS, 1);
+    expect(room.words[0] == HULMISKER_WORD_YES && room.warnings[HULMISKER_WARNINGS_SIZE - 1] == 8, "64 warnings", made, "other numbers at the ends", "66, 8");
     marker(repeat("", "'a'=='b'", " or ", 65, ""), "27 at 768, 8");
     line(repeat("a;", "'a'=='b'", " or ", 65, ""), "27 at 770, 8");
 }
@@ -434,24 +460,24 @@ static void extras_alone(void)
 
 static void versions(void)
 {
-    judged(hulmisker_version, "hulmisker_version", "1.0", "0 at 0, 0");
-    judged(hulmisker_version, "hulmisker_version", " v1!2.3rc4.post5.dev6+l.7 ", "0 at 0, 0");
-    judged(hulmisker_version, "hulmisker_version", "18446744073709551615", "0 at 0, 0");
-    judged(hulmisker_version, "hulmisker_version", "18446744073709551616", "14 at 0, 20");
-    judged(hulmisker_version, "hulmisker_version", "1.*", "14 at 0, 3");
-    judged(hulmisker_version, "hulmisker_version", "", "14 at 0, 0");
-    judged(hulmisker_version, "hulmisker_version", "1\200", "2 at 1, 1");
-    judged(hulmisker_pattern, "hulmisker_pattern", "1.*", "0 at 0, 0");
-    judged(hulmisker_pattern, "hulmisker_pattern", "1a1", "0 at 0, 0");
-    judged(hulmisker_pattern, "hulmisker_pattern", "1a1.*", "14 at 0, 5");
-    judged(hulmisker_pattern, "hulmisker_pattern", "\200", "2 at 0, 1");
-    judged(hulmisker_specifier, "hulmisker_specifier", ">=1", "0 at 0, 0");
-    judged(hulmisker_specifier, "hulmisker_specifier", "==1.*", "0 at 0, 0");
-    judged(hulmisker_specifier, "hulmisker_specifier", ">1.*", "14 at 0, 4");
-    judged(hulmisker_specifier, "hulmisker_specifier", "~=1", "14 at 0, 3");
-    judged(hulmisker_specifier, "hulmisker_specifier", "~=1.2", "0 at 0, 0");
-    judged(hulmisker_specifier, "hulmisker_specifier", "===abc", "14 at 0, 6");
-    judged(hulmisker_specifier, "hulmisker_specifier", "=1\200", "2 at 2, 1");
+    version(hulmisker_version, "hulmisker_version", "1.0", "0 at 0, 0");
+    version(hulmisker_version, "hulmisker_version", " v1!2.3rc4.post5.dev6+l.7 ", "0 at 0, 0");
+    version(hulmisker_version, "hulmisker_version", "18446744073709551615", "0 at 0, 0");
+    version(hulmisker_version, "hulmisker_version", "18446744073709551616", "14 at 0, 20");
+    version(hulmisker_version, "hulmisker_version", "1.*", "14 at 0, 3");
+    version(hulmisker_version, "hulmisker_version", "", "14 at 0, 0");
+    version(hulmisker_version, "hulmisker_version", "1\200", "2 at 1, 1");
+    version(hulmisker_pattern, "hulmisker_pattern", "1.*", "0 at 0, 0");
+    version(hulmisker_pattern, "hulmisker_pattern", "1a1", "0 at 0, 0");
+    version(hulmisker_pattern, "hulmisker_pattern", "1a1.*", "14 at 0, 5");
+    version(hulmisker_pattern, "hulmisker_pattern", "\200", "2 at 0, 1");
+    version(hulmisker_specifier, "hulmisker_specifier", ">=1", "0 at 0, 0");
+    version(hulmisker_specifier, "hulmisker_specifier", "==1.*", "0 at 0, 0");
+    version(hulmisker_specifier, "hulmisker_specifier", ">1.*", "14 at 0, 4");
+    version(hulmisker_specifier, "hulmisker_specifier", "~=1", "14 at 0, 3");
+    version(hulmisker_specifier, "hulmisker_specifier", "~=1.2", "0 at 0, 0");
+    version(hulmisker_specifier, "hulmisker_specifier", "===abc", "14 at 0, 6");
+    version(hulmisker_specifier, "hulmisker_specifier", "=1\200", "2 at 2, 1");
 }
 
 static void names(void)
@@ -541,7 +567,7 @@ static void null_and_nothing(void)
     expect(hulmisker_version(NULL, 0, room.figures) == 14, "hulmisker_version", "NULL", "other", "14");
     expect(hulmisker_pattern(NULL, 0, room.figures) == 14, "hulmisker_pattern", "NULL", "other", "14");
     expect(hulmisker_specifier(NULL, 0, room.figures) == 14, "hulmisker_specifier", "NULL", "other", "14");
-    expect(hulmisker_normalise(NULL, 0, NULL, 0, room.figures) == 0 && room.figures[2] == 0, "hulmisker_normalise", "NULL", "other", "0, length 0");
+    expect(hulmisker_normalise(NULL, 0, NULL, 0, room.figures) == 0 && room.figures[HULMISKER_NORMALISE_LEN] == 0, "hulmisker_normalise", "NULL", "other", "0, length 0");
     expect(hulmisker_normalise((const uint8_t *)"A", 1, NULL, 0, room.figures) == 29, "hulmisker_normalise", "A into NULL", "other", "29");
     expect(hulmisker_check(NULL, 0, 0, room.figures) == 30, "hulmisker_check", "NULL", "other", "30");
     expect(hulmisker_run(NULL, 0, 0, 0, room.figures) == 30, "hulmisker_run", "NULL", "other", "30");
@@ -550,8 +576,8 @@ static void null_and_nothing(void)
 /* The texts of the header: one for each number, all different, and one for what has none. */
 static void texts(void)
 {
-    for (unsigned i = 0; i < 32; i++)
-        for (unsigned k = i + 1; k < 33; k++)
+    for (unsigned i = 0; i <= HULMISKER_PIECE_LONG; i++)
+        for (unsigned k = i + 1; k <= HULMISKER_PIECE_LONG + 1; k++)
             expect(strcmp(hulmisker_refusal_text(i), hulmisker_refusal_text(k)) != 0, "hulmisker_refusal_text", "two numbers", "one text", "two texts");
     for (size_t i = 0; i < 12; i++)
         for (size_t k = i + 1; k < 13; k++) {
@@ -579,9 +605,9 @@ int main(void)
     programs();
     null_and_nothing();
     texts();
-    for (int number = 1; number < 32; number++) {
+    for (unsigned number = 1; number < sizeof met; number++) {
         char text[16];
-        snprintf(text, sizeof text, "%d", number);
+        snprintf(text, sizeof text, "%u", number);
         expect(met[number], "the tests", text, "a refusal that no test meets", "each of the 31");
     }
     printf("%u expectations, %u failed\n", tried, failed);

@@ -16,7 +16,7 @@ import sys
 AND, OR, YES = 64, 65, 66
 
 
-def judge(words, count):
+def refusal_of(words, count):
     """(number, start, length) of the refusal, or None: the rules in document 01's order."""
     if count > 64:
         return (31, 0, 1)
@@ -127,7 +127,7 @@ def cases():
 
 def main():
     for words, count, assignment in cases():
-        refusal = judge(words, count)
+        refusal = refusal_of(words, count)
         number, start, length = refusal or (0, 0, 0)
         value = 0 if refusal else int(answer(words, assignment))
         print("%016x %016x %02x %04x %02x %d %02x %s"

@@ -1,5 +1,5 @@
 #!/usr/bin/env python3
-"""Makes the file `stdin` of this crate: one text a line, judged by `packaging`, with the number bound of document 01.
+"""Makes the file `stdin` of this crate: one text a line with the answer of `packaging` before it, under the number bound of document 01.
 
 A line is a letter for what the text is offered as (v a version, p a pattern, s a specifier), + or - for whether it is one, and the text.
 Needs the Python package `packaging` (version 22 or later). The seed is fixed, so the same list comes out each time.
@@ -69,7 +69,7 @@ def over(text):
     return any(int(d) > BOUND for d in re.findall(r"[0-9]+", text))
 
 
-def judged(kind, text):
+def accepted(kind, text):
     if kind == "v":
         theirs = packaging_version(text)
         ours = theirs and is_version(text)
@@ -181,7 +181,7 @@ def main():
         if "\n" in text or len(text) > 44 or (kind, text) in seen:
             continue
         seen.add((kind, text))
-        rows.append(kind + ("+" if judged(kind, text) else "-") + text + "\n")
+        rows.append(kind + ("+" if accepted(kind, text) else "-") + text + "\n")
     out = "".join(rows).encode("ascii")
     assert len(out) < 65536, len(out)
     pathlib.Path(__file__).with_name("stdin").write_bytes(out)

@@ -4,7 +4,7 @@ use core::fmt::{self, Display, Formatter, Write};
 
 use crate::Span;
 
-/// Document 01's refusals. Each is its number.
+/// Document 01's refusals, and from 32 on document 02's, which no function of this crate gives yet. Each is its number.
 #[derive(Clone, Copy, Debug, PartialEq, Eq, PartialOrd, Ord, Hash)]
 #[repr(u8)]
 pub enum Fault {
@@ -70,11 +70,31 @@ pub enum Fault {
     ProgramBad = 30,
     /// The count of comparisons is over 64.
     CountOver = 31,
+    /// More than 16 release or 8 local segments, in judging only.
+    SegmentsMany = 32,
+    /// A piece or a finish after the finish, or after 36.
+    TextEnded = 33,
+    /// A comparison number more than once in a program to be explained.
+    NumberRepeated = 34,
+    /// A record out of order, or a field that no line gives.
+    RecordBad = 35,
+    /// A line after number 4,294,967,295, or a count that would exceed it.
+    LinesMany = 36,
+    /// A cabinet that is not made of its variable texts and its extras in normal form.
+    CabinetBad = 37,
+    /// A claimed answer that is not the one judged.
+    ClaimWrong = 38,
+    /// A claimed set with a number that is not below the count.
+    ClaimOutside = 39,
+    /// A claimed set that does not fix the answer.
+    ClaimOpen = 40,
+    /// A piece of over 512 bytes.
+    PieceLong = 41,
 }
 
 impl Fault {
     /// All of them, in the order of their numbers.
-    pub const ALL: [Fault; 31] = [
+    pub const ALL: [Fault; 41] = [
         Fault::TooLong,
         Fault::NotAscii,
         Fault::NameMissing,
@@ -106,14 +126,24 @@ impl Fault {
         Fault::OutputShort,
         Fault::ProgramBad,
         Fault::CountOver,
+        Fault::SegmentsMany,
+        Fault::TextEnded,
+        Fault::NumberRepeated,
+        Fault::RecordBad,
+        Fault::LinesMany,
+        Fault::CabinetBad,
+        Fault::ClaimWrong,
+        Fault::ClaimOutside,
+        Fault::ClaimOpen,
+        Fault::PieceLong,
     ];
 
-    /// Document 01's number, 1 to 31.
+    /// Its number, 1 to 41.
     pub fn number(self) -> u8 {
         self as u8
     }
 
-    /// The refusal of a number, if it is 1 to 31.
+    /// The refusal of a number, if it is 1 to 41.
     pub fn from_number(number: u8) -> Option<Fault> {
         let index = usize::from(number).checked_sub(1)?;
         Fault::ALL.get(index).copied()
@@ -155,6 +185,20 @@ impl Fault {
             Fault::OutputShort => "the output is shorter than the normal form",
             Fault::ProgramBad => "the program breaks a stack rule",
             Fault::CountOver => "the count of comparisons is over 64",
+            Fault::SegmentsMany => "a version with over 16 release or 8 local segments is compared",
+            Fault::TextEnded => "the text has ended, and is not restarted",
+            Fault::NumberRepeated => {
+                "a comparison number more than once in a program to be explained"
+            }
+            Fault::RecordBad => "a record out of order, or a field that no line gives",
+            Fault::LinesMany => "over 4294967295 lines",
+            Fault::CabinetBad => {
+                "a cabinet is made of its variable texts and its extras in normal form"
+            }
+            Fault::ClaimWrong => "the claimed answer is not the one judged",
+            Fault::ClaimOutside => "the claimed set has a number that is not below the count",
+            Fault::ClaimOpen => "the claimed set does not fix the answer",
+            Fault::PieceLong => "the piece is over 512 bytes",
         }
     }
 }

@@ -2,7 +2,7 @@
 //!
 //! The work is done by the functions of `crates/gateway`, written in Rattle and proved to answer what their definitions say, for every input. This crate is a
 //! thin layer over them: it lends the buffers, and gives numbers their names. "Document 01" is the paper that decides what is read and what is
-//! refused, and with which of 31 numbers (see the repository's README).
+//! refused, and with which of the numbers 1 to 31 (see the repository's README).
 //!
 //! ```
 //! use hulmisker::{read_line, Key, Operator};
@@ -40,6 +40,7 @@ mod fault;
 mod marker;
 mod program;
 mod requirement;
+mod sizes;
 mod span;
 mod sys;
 
@@ -48,35 +49,23 @@ pub use fault::{Fault, Refusal, Shown};
 pub use marker::{read_marker, Comparison, Marker, Warning};
 pub use program::{check, run, Program};
 pub use requirement::{read_extras, read_line, Reader, Requirement, Spans};
+pub use sizes::{
+    MAX_COMPARISONS, MAX_DEPTH, MAX_LINE, MAX_LIST, MAX_VALUES, MAX_WARNINGS, MAX_WORDS,
+};
 pub use span::Span;
 
-/// The most bytes that a line, extras, a marker, a version, a pattern or a specifier may have.
-pub const MAX_LINE: usize = 4096;
-/// The most extras, and the most specifiers, of a line.
-pub const MAX_LIST: usize = 32;
-/// The most open parentheses of a marker.
-pub const MAX_DEPTH: usize = 16;
-/// The most comparisons that a marker may keep.
-pub const MAX_COMPARISONS: usize = 64;
-/// The most warnings of a marker.
-pub const MAX_WARNINGS: usize = 64;
-/// The most words of a program.
-pub const MAX_WORDS: usize = 127;
-/// The most values that may stand at a time while a program runs.
-pub const MAX_VALUES: usize = 35;
-
 /// Whether a text is a version by PEP 440. Refuses with [`Fault::TooLong`], [`Fault::NotAscii`] or [`Fault::VersionBad`].
-pub fn judge_version(text: &[u8]) -> Result<(), Refusal> {
+pub fn check_version(text: &[u8]) -> Result<(), Refusal> {
     sys::version(text)
 }
 
-/// Whether a text is a version, or epoch and release and `.*`. Refuses as [`judge_version`] does.
-pub fn judge_pattern(text: &[u8]) -> Result<(), Refusal> {
+/// Whether a text is a version, or epoch and release and `.*`. Refuses as [`check_version`] does.
+pub fn check_pattern(text: &[u8]) -> Result<(), Refusal> {
     sys::pattern(text)
 }
 
-/// Whether a text is an operator and a version or pattern that may go with it. Refuses as [`judge_version`] does.
-pub fn judge_specifier(text: &[u8]) -> Result<(), Refusal> {
+/// Whether a text is an operator and a version or pattern that may go with it. Refuses as [`check_version`] does.
+pub fn check_specifier(text: &[u8]) -> Result<(), Refusal> {
     sys::specifier(text)
 }
 

@@ -35,7 +35,7 @@ pub struct Warning {
 
 /// A comparison as the library stores it: codes of sort, key and operator, and the literal's span.
 #[derive(Clone, Copy)]
-#[repr(C)] // five numbers
+#[repr(C)] // `COMPARISON_SIZE` numbers
 pub(crate) struct StoredComparison {
     pub sort: usize,
     pub key: usize,
@@ -45,7 +45,7 @@ pub(crate) struct StoredComparison {
 
 /// A warning as the library stores it.
 #[derive(Clone, Copy)]
-#[repr(C)] // three numbers
+#[repr(C)] // `WARNING_SIZE` numbers
 pub(crate) struct StoredWarning {
     pub kind: usize,
     pub span: Span,
@@ -133,13 +133,13 @@ impl Marker {
         &self.program
     }
 
-    /// Whether the marker holds, where `judge` says of each comparison whether that holds. It is asked once for each, in their order.
-    pub fn holds(&self, mut judge: impl FnMut(Comparison) -> bool) -> bool {
+    /// Whether the marker holds, where `says` tells of each comparison whether that holds. It is asked once for each, in their order.
+    pub fn holds(&self, mut says: impl FnMut(Comparison) -> bool) -> bool {
         let assignment = self
             .comparisons()
             .enumerate()
             .fold(0, |bits, (k, comparison)| {
-                bits | u64::from(judge(comparison)) << k
+                bits | u64::from(says(comparison)) << k
             });
         self.program.run(assignment)
     }

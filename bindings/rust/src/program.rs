@@ -44,7 +44,7 @@ impl Program {
             count,
             ..Program::YES
         };
-        // What passes has at most 127 words.
+        // What passes has at most `MAX_WORDS` words.
         program.words[..words.len()].copy_from_slice(words);
         Ok(program)
     }

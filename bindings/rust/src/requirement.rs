@@ -115,7 +115,7 @@ impl Debug for Requirement {
     }
 }
 
-/// A list of at most 32 spans, in the order of the line.
+/// A list of at most [`MAX_LIST`] spans, in the order of the line.
 #[derive(Clone, Copy)]
 pub struct Spans {
     pub(crate) spans: [Span; MAX_LIST],

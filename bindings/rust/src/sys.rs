@@ -14,6 +14,10 @@
 use core::mem::size_of;
 
 use crate::marker::{StoredComparison, StoredWarning};
+use crate::sizes::{
+    CHECK_FIGURES, COMPARISONS_SIZE, EXTRAS_FIGURES, LINE_FIGURES, LIST_SIZE, MARKER_FIGURES,
+    NORMALISE_FIGURES, RUN_FIGURES, VERSION_FIGURES, WARNINGS_SIZE,
+};
 use crate::{Fault, Marker, Refusal, Requirement, Span, Spans};
 use crate::{MAX_COMPARISONS, MAX_LIST, MAX_WARNINGS, MAX_WORDS};
 
@@ -23,18 +27,17 @@ type Warnings = [StoredWarning; MAX_WARNINGS];
 type Words = [u8; MAX_WORDS];
 
 // The sizes that the header declares, in numbers.
-const _: () = assert!(size_of::<Listed>() == size_of::<[usize; 64]>());
-const _: () = assert!(size_of::<Comparisons>() == size_of::<[usize; 320]>());
-const _: () = assert!(size_of::<Warnings>() == size_of::<[usize; 192]>());
-const _: () = assert!(size_of::<Words>() == 127);
+const _: () = assert!(size_of::<Listed>() == size_of::<[usize; LIST_SIZE]>());
+const _: () = assert!(size_of::<Comparisons>() == size_of::<[usize; COMPARISONS_SIZE]>());
+const _: () = assert!(size_of::<Warnings>() == size_of::<[usize; WARNINGS_SIZE]>());
 
-type Judge = unsafe extern "C" fn(*const u8, usize, *mut [usize; 2]) -> u8;
+type VersionCheck = unsafe extern "C" fn(*const u8, usize, *mut [usize; VERSION_FIGURES]) -> u8;
 
 extern "C" {
     fn hulmisker_line(
         line: *const u8,
         line_len: usize,
-        figures: *mut [usize; 12],
+        figures: *mut [usize; LINE_FIGURES],
         extras: *mut Listed,
         specifiers: *mut Listed,
         comparisons: *mut Comparisons,
@@ -44,39 +47,51 @@ extern "C" {
     fn hulmisker_extras(
         line: *const u8,
         line_len: usize,
-        figures: *mut [usize; 3],
+        figures: *mut [usize; EXTRAS_FIGURES],
         extras: *mut Listed,
     ) -> u8;
     fn hulmisker_marker(
         line: *const u8,
         line_len: usize,
-        figures: *mut [usize; 5],
+        figures: *mut [usize; MARKER_FIGURES],
         comparisons: *mut Comparisons,
         warnings: *mut Warnings,
         words: *mut Words,
     ) -> u8;
-    fn hulmisker_version(text: *const u8, text_len: usize, figures: *mut [usize; 2]) -> u8;
-    fn hulmisker_pattern(text: *const u8, text_len: usize, figures: *mut [usize; 2]) -> u8;
-    fn hulmisker_specifier(text: *const u8, text_len: usize, figures: *mut [usize; 2]) -> u8;
+    fn hulmisker_version(
+        text: *const u8,
+        text_len: usize,
+        figures: *mut [usize; VERSION_FIGURES],
+    ) -> u8;
+    fn hulmisker_pattern(
+        text: *const u8,
+        text_len: usize,
+        figures: *mut [usize; VERSION_FIGURES],
+    ) -> u8;
+    fn hulmisker_specifier(
+        text: *const u8,
+        text_len: usize,
+        figures: *mut [usize; VERSION_FIGURES],
+    ) -> u8;
     fn hulmisker_normalise(
         name: *const u8,
         name_len: usize,
         out: *mut u8,
         out_len: usize,
-        figures: *mut [usize; 3],
+        figures: *mut [usize; NORMALISE_FIGURES],
     ) -> u8;
     fn hulmisker_check(
         program: *const u8,
         program_len: usize,
         count: usize,
-        figures: *mut [usize; 2],
+        figures: *mut [usize; CHECK_FIGURES],
     ) -> u8;
     fn hulmisker_run(
         program: *const u8,
         program_len: usize,
         count: usize,
         assignment: u64,
-        figures: *mut [usize; 3],
+        figures: *mut [usize; RUN_FIGURES],
     ) -> u8;
 }
 
@@ -90,7 +105,7 @@ fn verdict(number: u8, start: usize, len: usize) -> Result<(), Refusal> {
             fault,
             span: Span { start, len },
         }),
-        // The contracts say that the number is that of one of the 31 faults (`faultNumber` in crates/text).
+        // The contracts say that the number is that of a fault (`faultNumber` in crates/refusal).
         None => unreachable!(
             "no refusal has the number {number}: is libgateway.a the archive of this repository?"
         ),
@@ -99,7 +114,7 @@ fn verdict(number: u8, start: usize, len: usize) -> Result<(), Refusal> {
 
 /// Reads into `found`; a refusal leaves it as it was.
 pub(crate) fn line(line: &[u8], found: &mut Requirement) -> Result<(), Refusal> {
-    let mut figures = [0; 12];
+    let mut figures = [0; LINE_FIGURES];
     // SAFETY: a borrowed slice, a local, and five fields of one struct that is borrowed alone, each of the declared size; see above.
     let number = unsafe {
         hulmisker_line(
@@ -132,7 +147,7 @@ pub(crate) fn line(line: &[u8], found: &mut Requirement) -> Result<(), Refusal> 
 
 /// Reads into `found`; a refusal leaves it as it was.
 pub(crate) fn extras(line: &[u8], found: &mut Spans) -> Result<(), Refusal> {
-    let mut figures = [0; 3];
+    let mut figures = [0; EXTRAS_FIGURES];
     // SAFETY: a borrowed slice, a local, and a field that is borrowed alone, each of the declared size; see above.
     let number =
         unsafe { hulmisker_extras(line.as_ptr(), line.len(), &mut figures, &mut found.spans) };
@@ -144,7 +159,7 @@ pub(crate) fn extras(line: &[u8], found: &mut Spans) -> Result<(), Refusal> {
 
 /// Reads into `found`; a refusal leaves it as it was.
 pub(crate) fn marker(line: &[u8], found: &mut Marker) -> Result<(), Refusal> {
-    let mut figures = [0; 5];
+    let mut figures = [0; MARKER_FIGURES];
     // SAFETY: a borrowed slice, a local, and three fields of one struct that is borrowed alone, each of the declared size; see above.
     let number = unsafe {
         hulmisker_marker(
@@ -162,8 +177,8 @@ pub(crate) fn marker(line: &[u8], found: &mut Marker) -> Result<(), Refusal> {
     Ok(())
 }
 
-fn judged(by: Judge, text: &[u8]) -> Result<(), Refusal> {
-    let mut figures = [0; 2];
+fn checked(by: VersionCheck, text: &[u8]) -> Result<(), Refusal> {
+    let mut figures = [0; VERSION_FIGURES];
     // SAFETY: `by` is one of the three functions below; a borrowed slice, and a local of the declared size; see above.
     let number = unsafe { by(text.as_ptr(), text.len(), &mut figures) };
     let [at, at_len] = figures;
@@ -171,20 +186,20 @@ fn judged(by: Judge, text: &[u8]) -> Result<(), Refusal> {
 }
 
 pub(crate) fn version(text: &[u8]) -> Result<(), Refusal> {
-    judged(hulmisker_version, text)
+    checked(hulmisker_version, text)
 }
 
 pub(crate) fn pattern(text: &[u8]) -> Result<(), Refusal> {
-    judged(hulmisker_pattern, text)
+    checked(hulmisker_pattern, text)
 }
 
 pub(crate) fn specifier(text: &[u8]) -> Result<(), Refusal> {
-    judged(hulmisker_specifier, text)
+    checked(hulmisker_specifier, text)
 }
 
 /// The length of what was written.
 pub(crate) fn normalise(name: &[u8], out: &mut [u8]) -> Result<usize, Refusal> {
-    let mut figures = [0; 3];
+    let mut figures = [0; NORMALISE_FIGURES];
     // SAFETY: a borrowed slice, a slice that is borrowed alone, with its own length, and a local of the declared size; see above.
     let number = unsafe {
         hulmisker_normalise(
@@ -201,7 +216,7 @@ pub(crate) fn normalise(name: &[u8], out: &mut [u8]) -> Result<usize, Refusal> {
 }
 
 pub(crate) fn check(program: &[u8], count: usize) -> Result<(), Refusal> {
-    let mut figures = [0; 2];
+    let mut figures = [0; CHECK_FIGURES];
     // SAFETY: a borrowed slice, and a local of the declared size; see above.
     let number = unsafe { hulmisker_check(program.as_ptr(), program.len(), count, &mut figures) };
     let [at, at_len] = figures;
@@ -209,7 +224,7 @@ pub(crate) fn check(program: &[u8], count: usize) -> Result<(), Refusal> {
 }
 
 pub(crate) fn run(program: &[u8], count: usize, assignment: u64) -> Result<bool, Refusal> {
-    let mut figures = [0; 3];
+    let mut figures = [0; RUN_FIGURES];
     // SAFETY: a borrowed slice, and a local of the declared size; see above.
     let number = unsafe {
         hulmisker_run(

@@ -1,8 +1,18 @@
-//! The numbers and texts of this crate are those of the C header.
+//! The numbers and texts of this crate are those of the C header, and the header's are those of the proved functions' source.
 
 use hulmisker::*;
 
+#[allow(dead_code)]
+#[path = "../src/sizes.rs"]
+mod sizes;
+
 const HEADER: &str = include_str!("../../c/hulmisker.h");
+
+/// What a constant is said to be: a number, or a product of numbers and other constants.
+fn value(said: &str, of: impl Fn(&str) -> usize) -> usize {
+    let factor = |word: &str| word.parse().unwrap_or_else(|_| of(word));
+    said.split('*').map(|word| factor(word.trim())).product()
+}
 
 /// The number that the header gives a constant.
 fn constant(name: &str) -> usize {
@@ -10,8 +20,8 @@ fn constant(name: &str) -> usize {
         .lines()
         .find_map(|row| row.trim().strip_prefix(name)?.strip_prefix(" = "))
         .unwrap_or_else(|| panic!("the header has no {name}"));
-    let digits: String = row.chars().take_while(char::is_ascii_digit).collect();
-    digits.parse().unwrap()
+    let end = row.find([',', '/']).unwrap_or(row.len());
+    value(&row[..end], constant)
 }
 
 /// The text that the header has for a constant.
@@ -40,6 +50,14 @@ fn in_capitals(variant: &str) -> String {
     out
 }
 
+/// The faults of the proved source, in the order of their numbers.
+fn faults() -> Vec<&'static str> {
+    let source = include_str!("../../../crates/refusal/src/fault.rt");
+    let rows = between(source, "pub enum Fault {", "}").lines();
+    rows.filter_map(|row| row.trim().strip_suffix(','))
+        .collect()
+}
+
 #[test]
 fn refusals() {
     for fault in Fault::ALL {
@@ -47,6 +65,11 @@ fn refusals() {
         assert_eq!(constant(&name), usize::from(fault.number()));
         assert_eq!(text(&name), fault.message());
     }
+    assert_eq!(faults(), Fault::ALL.map(|fault| format!("{fault:?}")));
+    // The header has no other.
+    let (_, rest) = HEADER.split_once("enum hulmisker_refusal {").unwrap();
+    let (rows, _) = rest.split_once('}').unwrap();
+    assert_eq!(rows.matches(" = ").count(), 1 + Fault::ALL.len());
 }
 
 #[test]
@@ -78,16 +101,17 @@ fn warnings() {
 
 #[test]
 fn limits() {
-    for (name, limit) in [
-        ("LINE", MAX_LINE),
-        ("LIST", MAX_LIST),
-        ("DEPTH", MAX_DEPTH),
-        ("COMPARISONS", MAX_COMPARISONS),
-        ("WARNINGS", MAX_WARNINGS),
-        ("WORDS", MAX_WORDS),
-        ("VALUES", MAX_VALUES),
+    for (name, limit, theirs) in [
+        ("LINE", MAX_LINE, "MAX_LINE"),
+        ("LIST", MAX_LIST, "MAX_LIST"),
+        ("DEPTH", MAX_DEPTH, "MAX_DEPTH"),
+        ("COMPARISONS", MAX_COMPARISONS, "MAX_COMPARISONS"),
+        ("WARNINGS", MAX_WARNINGS, "MAX_COMPARISONS"),
+        ("WORDS", MAX_WORDS, "MAX_WORDS"),
+        ("VALUES", MAX_VALUES, "MAX_SLOTS"),
     ] {
         assert_eq!(constant(&format!("HULMISKER_MAX_{name}")), limit);
+        assert_eq!(proved(theirs), limit);
     }
 }
 
@@ -105,37 +129,116 @@ fn sorts() {
     }
 }
 
-/// The number that stands behind a text in the proved functions' source, from a function's name on.
-fn declared(function: &str, parameter: &str) -> usize {
-    let source = concat!(
-        include_str!("../../../crates/gateway/src/lists.rt"),
-        include_str!("../../../crates/gateway/src/programs.rt"),
-        include_str!("../../../crates/gateway/src/texts.rt"),
-    );
-    let (_, rest) = source.split_once(&format!("fn {function}(")).unwrap();
-    let (_, rest) = rest.split_once(parameter).unwrap();
-    rest.split_once(']').unwrap().0.parse().unwrap()
+/// The proved source that names sizes, places and limits, and the functions that lend by them.
+const SOURCE: &str = concat!(
+    include_str!("../../../crates/cursor/src/cursor.rt"),
+    include_str!("../../../crates/program_check/src/rules.rt"),
+    include_str!("../../../crates/spans/src/store.rt"),
+    include_str!("../../../crates/marker_store/src/room.rt"),
+    include_str!("../../../crates/figures/src/lib.rt"),
+    include_str!("../../../crates/gateway/src/requirements.rt"),
+    include_str!("../../../crates/gateway/src/programs.rt"),
+    include_str!("../../../crates/gateway/src/texts.rt"),
+);
+
+/// What stands in the proved source between two texts.
+fn between<'text>(text: &'text str, from: &str, to: &str) -> &'text str {
+    let (_, rest) = text
+        .split_once(from)
+        .unwrap_or_else(|| panic!("the source has no {from}"));
+    rest.split_once(to).unwrap().0
+}
+
+/// The number that the proved source gives a constant.
+fn proved(name: &str) -> usize {
+    let name = name.rsplit("::").next().unwrap();
+    value(
+        between(SOURCE, &format!("pub const {name}: usize = "), ";"),
+        proved,
+    )
+}
+
+/// How many elements an array has that a function takes.
+fn lent(function: &str, parameter: &str) -> usize {
+    let rest = between(SOURCE, &format!("fn {function}("), "{");
+    let array = between(rest, &format!("{parameter}: &mut "), ")");
+    let array = array.split(',').next().unwrap();
+    let elements = between(SOURCE, &format!("pub type {array} = ["), "]");
+    value(elements.split_once("; ").unwrap().1, proved)
 }
 
 #[test]
 fn sizes() {
-    for (name, function) in [
-        ("LINE", "hulmisker_line"),
-        ("EXTRAS", "hulmisker_extras"),
-        ("MARKER", "hulmisker_marker"),
-        ("JUDGED", "hulmisker_version"),
-        ("NORMALISE", "hulmisker_normalise"),
-        ("CHECK", "hulmisker_check"),
-        ("RUN", "hulmisker_run"),
+    for (name, function, size) in [
+        ("LINE", "hulmisker_line", sizes::LINE_FIGURES),
+        ("EXTRAS", "hulmisker_extras", sizes::EXTRAS_FIGURES),
+        ("MARKER", "hulmisker_marker", sizes::MARKER_FIGURES),
+        ("VERSION", "hulmisker_version", sizes::VERSION_FIGURES),
+        ("VERSION", "hulmisker_pattern", sizes::VERSION_FIGURES),
+        ("VERSION", "hulmisker_specifier", sizes::VERSION_FIGURES),
+        ("NORMALISE", "hulmisker_normalise", sizes::NORMALISE_FIGURES),
+        ("CHECK", "hulmisker_check", sizes::CHECK_FIGURES),
+        ("RUN", "hulmisker_run", sizes::RUN_FIGURES),
     ] {
-        let size = declared(function, "figures: &mut [usize; ");
         assert_eq!(constant(&format!("HULMISKER_{name}_FIGURES")), size);
+        assert_eq!(lent(function, "figures"), size);
     }
-    for list in ["extras", "specifiers", "comparisons", "warnings"] {
-        let size = declared("hulmisker_line", &format!("{list}: &mut [usize; "));
+    for (list, size) in [
+        ("extras", sizes::LIST_SIZE),
+        ("specifiers", sizes::LIST_SIZE),
+        ("comparisons", sizes::COMPARISONS_SIZE),
+        ("warnings", sizes::WARNINGS_SIZE),
+        ("words", MAX_WORDS),
+    ] {
         let name = format!("HULMISKER_{}_SIZE", list.to_ascii_uppercase());
         assert_eq!(constant(&name), size);
+        assert_eq!(lent("hulmisker_line", list), size);
     }
-    let size = declared("hulmisker_line", "words: &mut [u8; ");
-    assert_eq!(constant("HULMISKER_WORDS_SIZE"), size);
+    for (name, ours, theirs) in [
+        ("SPAN", sizes::SPAN_SIZE, "SPAN_NUMBERS"),
+        ("COMPARISON", sizes::COMPARISON_SIZE, "COMPARISON_NUMBERS"),
+        ("WARNING", sizes::WARNING_SIZE, "WARNING_NUMBERS"),
+    ] {
+        assert_eq!(constant(&format!("HULMISKER_{name}_SIZE")), ours);
+        assert_eq!(proved(theirs), ours);
+    }
+}
+
+/// The header's places are those of the proved source.
+#[test]
+fn places() {
+    for (name, theirs) in [
+        ("COMPARISON_SORT", "SORT"),
+        ("COMPARISON_KEY", "KEY"),
+        ("COMPARISON_OPERATOR", "OPERATOR"),
+        ("COMPARISON_START", "LITERAL_START"),
+        ("COMPARISON_LEN", "LITERAL_LENGTH"),
+        ("WARNING_KIND", "KIND"),
+        ("WARNING_START", "SPAN_START"),
+        ("WARNING_LEN", "SPAN_LENGTH"),
+        ("REFUSED_START", "START"),
+        ("REFUSED_LEN", "LENGTH"),
+        ("EXTRAS_COUNT", "COUNT"),
+        ("NORMALISE_LEN", "COUNT"),
+        ("RUN_ANSWER", "COUNT"),
+        ("MARKER_COMPARISONS", "MARKER_COMPARISONS"),
+        ("MARKER_WARNINGS", "MARKER_WARNINGS"),
+        ("MARKER_WORDS", "MARKER_WORDS"),
+        ("LINE_NAME_START", "LINE_NAME_START"),
+        ("LINE_NAME_LEN", "LINE_NAME_LENGTH"),
+        ("LINE_HAS_URL", "LINE_HAS_URL"),
+        ("LINE_URL_START", "LINE_URL_START"),
+        ("LINE_URL_LEN", "LINE_URL_LENGTH"),
+        ("LINE_EXTRAS", "LINE_EXTRAS"),
+        ("LINE_SPECIFIERS", "LINE_SPECIFIERS"),
+        ("LINE_COMPARISONS", "LINE_COMPARISONS"),
+        ("LINE_WARNINGS", "LINE_WARNINGS"),
+        ("LINE_WORDS", "LINE_WORDS"),
+    ] {
+        assert_eq!(
+            constant(&format!("HULMISKER_{name}")),
+            proved(theirs),
+            "{name}"
+        );
+    }
 }

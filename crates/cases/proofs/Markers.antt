@@ -5,18 +5,20 @@ use mathlib.Core.Path.{_≡_, refl}
 use Prim.Native.Nat.{ℕ, zero, suc, _+_}
 use Prim.Native.Char.{code}
 use lib.ListN.{length, replicate}
-use Rattle.comparison.specs.Found.{foundAt}
-use Rattle.comparison.specs.Operator.{laterSymbolIn, symbolIn, symbolAt, inAt, notAt, wordAt, operatorAt}
-use Rattle.comparison.specs.Value.{lastNameIn, stringNameIn, versionNameIn, namedAt, quotedAt, valueAt}
+use Rattle.marker_verdict.specs.Found.{foundAt}
+use Rattle.marker_value.specs.Operator.{laterSymbolIn, symbolIn, symbolAt, inAt, notAt, wordAt, operatorAt}
+use Rattle.marker_value.specs.Value.{lastNameIn, stringNameIn, versionNameIn, namedAt, quotedAt, valueAt}
 use Rattle.name.specs.Normal.{badAt}
-use Rattle.text.specs.Answer.{Answer, good, refused}
-use Rattle.text.specs.Refusal.{given}
+use Rattle.refusal.specs.Answer.{Answer, good, refused}
+use Rattle.refusal.specs.Refusal.{given}
 use Rattle.text.specs.Scan.{run, skip}
 use Rattle.text.specs.Word.{bytes, beginsBy}
-use Rattle.version.specs.Joined.{moreLen, more as moreJoined}
-use Rattle.version.specs.Layout.{epochLen, segmentLen, localLen, layout}
-use Rattle.version.specs.Number.{valueFrom, numberLen}
-use Rattle.version.specs.Part.{wordLen, partLen, postLen}
+use Rattle.version_parts.specs.Joined.{moreLen, more as moreJoined}
+use Rattle.version_parts.specs.Local.{segmentLen, localLen}
+use Rattle.version_parts.specs.Release.{epochLen}
+use Rattle.version.specs.Layout.{layout}
+use Rattle.version_number.specs.Number.{valueFrom, numberLen}
+use Rattle.version_parts.specs.Part.{wordLen, partLen, postLen}
 use Rattle.version.specs.Reading.{pieces}
 use Rattle.version.specs.Rules.{isVersion, goesWith, allVersions, isVersionList}
 use Rattle.marker.specs.Answer.{markerAnswer}

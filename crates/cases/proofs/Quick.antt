@@ -5,39 +5,41 @@ use mathlib.Core.Path.{_≡_, refl}
 use Prim.Native.Nat.{ℕ}
 use Prim.Native.String.{String}
 use lib.ListN.{replicate}
-use Rattle.comparison.specs.Found.{foundAt}
-use Rattle.comparison.specs.Operator.{laterSymbolIn, symbolIn, symbolAt, inAt, notAt, wordAt, operatorAt}
-use Rattle.comparison.specs.Value.{lastNameIn, stringNameIn, versionNameIn, namedAt, quotedAt, valueAt}
-use Rattle.text.specs.Answer.{Answer, refused}
-use Rattle.text.specs.Check.{passes}
-use Rattle.text.specs.Refusal.{span, given}
+use Rattle.marker_verdict.specs.Found.{foundAt}
+use Rattle.marker_value.specs.Operator.{laterSymbolIn, symbolIn, symbolAt, inAt, notAt, wordAt, operatorAt}
+use Rattle.marker_value.specs.Value.{lastNameIn, stringNameIn, versionNameIn, namedAt, quotedAt, valueAt}
+use Rattle.refusal.specs.Answer.{Answer, refused, passes, outcomeOf}
+use Rattle.refusal.specs.Refusal.{span, given}
 use Rattle.text.specs.Scan.{run, skip}
 use Rattle.text.specs.Word.{bytes, beginsBy}
-use Rattle.text.specs.declared.refusal.Span.{Span}
-use Rattle.version.specs.Joined.{moreLen, more as moreJoined}
-use Rattle.version.specs.Layout.{epochLen, segmentLen, localLen, layout}
-use Rattle.version.specs.Number.{valueFrom, numberLen}
-use Rattle.version.specs.Part.{wordLen, partLen, postLen}
-use Rattle.version.specs.Rules.{isVersion, laterOperatorIn, operatorIn, goesWith, isSpecifier}
-use Rattle.spans.specs.Flat.{flat, write}
-use Rattle.spans.specs.Reading.{listFrom, spansIn, outcome}
-use Rattle.extras.specs.Item.{itemAt as extraItemAt}
-use Rattle.extras.specs.Reading.{extrasAt}
-use Rattle.url.specs.Url.{closesAt, stopsAt, firstFrom, urlEnd, goesOn, urlAt}
-use Rattle.specifiers.specs.Item.{textTo, itemAt as textItemAt}
-use Rattle.specifiers.specs.Reading.{bareAt, specifiersAt}
+use Rattle.refusal.specs.declared.place.Span.{Span}
+use Rattle.version_parts.specs.Joined.{moreLen, more as moreJoined}
+use Rattle.version_parts.specs.Local.{segmentLen, localLen}
+use Rattle.version_parts.specs.Release.{epochLen}
+use Rattle.version.specs.Layout.{layout}
+use Rattle.version_number.specs.Number.{valueFrom, numberLen}
+use Rattle.version_parts.specs.Part.{wordLen, partLen, postLen}
+use Rattle.version_operator.specs.Operator.{operatorAmong}
+use Rattle.version.specs.Rules.{isVersion, goesWith, isSpecifier}
+use Rattle.spans.specs.Flat.{flat}
+use Rattle.arrays.specs.Front.{onto}
+use Rattle.spans.specs.Listing.{listFrom, spansIn, outcome}
+use Rattle.line_extras.specs.Extra.{itemAt as extraItemAt}
+use Rattle.line_extras.specs.Extras.{extrasAt}
+use Rattle.line_url.specs.Url.{closesAt, stopsAt, firstFrom, urlEnd, goesOn, urlAt}
+use Rattle.line_specifiers.specs.Specifier.{textTo, itemAt as textItemAt}
+use Rattle.line_specifiers.specs.Specifiers.{bareAt, specifiersAt}
 use Rattle.line_name.specs.Name.{nameAt}
 use Rattle.line_head.specs.Head.{tailAt, wantedAt, textsAt, fromTail, fromWanted, fromExtras, head, textsFrom, extrasOf, textsOf}
-use Rattle.marker.specs.Answer.{outcomeOf}
-use Rattle.marker_steps.specs.Arrays.{allNumbers}
+use Rattle.marker_store.specs.Numbers.{allNumbers}
 use Rattle.marker_steps.specs.Grammar.{keptOf, warnedOf, settled, settle, wordAhead, more, chain, itemAt, itemOf, andOf, orOf, closed, groupAt, ending, parseFrom}
 use Rattle.marker_steps.specs.Marking.{some, wordsFrom, program}
-use Rattle.marker_code.specs.Code.{sortCode, keyCode}
+use Rattle.marker_kind.specs.Code.{sortCode, keyCode}
 use Rattle.line.specs.Figures.{figuresOf, Buffers, buffers, written}
 use Rattle.line.specs.Line.{lineParts, lineAnswer, shown}
-use Rattle.line.specs.declared.door.Url.{Url}
-use Rattle.line.specs.declared.door.Url.the-variants.{Absent, At}
-use Rattle.line.specs.declared.quick.Figures.{Figures}
+use Rattle.line.specs.declared.figures.Url.{Url}
+use Rattle.line.specs.declared.figures.Url.the-variants.{Absent, At}
+use Rattle.line.specs.declared.figures.Figures.{Figures}
 
 -- whether the line was read, the single spans and the counts, and the arrays
 abbrev pub Reply : Type 0
@@ -64,5 +66,5 @@ table =
     ∷ []
 
 pub holds : map (λ e. replied (e .0)) table ≡ map (λ e. e .1) table
-unfolding given run skip beginsBy moreLen moreJoined epochLen segmentLen localLen layout valueFrom numberLen wordLen partLen postLen isVersion laterOperatorIn operatorIn goesWith isSpecifier flat write listFrom spansIn outcome extraItemAt extrasAt closesAt stopsAt firstFrom urlEnd goesOn urlAt textTo textItemAt bareAt specifiersAt nameAt tailAt wantedAt textsAt fromTail fromWanted fromExtras head textsFrom extrasOf textsOf laterSymbolIn symbolIn symbolAt inAt notAt wordAt operatorAt lastNameIn stringNameIn versionNameIn namedAt quotedAt valueAt foundAt sortCode keyCode allNumbers keptOf warnedOf settled settle wordAhead more chain itemAt itemOf andOf orOf closed groupAt ending parseFrom some wordsFrom program lineParts
+unfolding given run skip beginsBy moreLen moreJoined epochLen segmentLen localLen layout valueFrom numberLen wordLen partLen postLen isVersion operatorAmong goesWith isSpecifier flat onto listFrom spansIn outcome extraItemAt extrasAt closesAt stopsAt firstFrom urlEnd goesOn urlAt textTo textItemAt bareAt specifiersAt nameAt tailAt wantedAt textsAt fromTail fromWanted fromExtras head textsFrom extrasOf textsOf laterSymbolIn symbolIn symbolAt inAt notAt wordAt operatorAt lastNameIn stringNameIn versionNameIn namedAt quotedAt valueAt foundAt sortCode keyCode allNumbers keptOf warnedOf settled settle wordAhead more chain itemAt itemOf andOf orOf closed groupAt ending parseFrom some wordsFrom program lineParts
 holds = refl

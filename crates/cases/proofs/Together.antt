@@ -5,38 +5,42 @@ use mathlib.Core.Path.{_≡_, refl}
 use Prim.Native.Nat.{ℕ, zero, suc, _+_}
 use Prim.Native.String.{String}
 use lib.ListN.{length, replicate}
-use Rattle.comparison.specs.Found.{foundAt}
-use Rattle.comparison.specs.Operator.{laterSymbolIn, symbolIn, symbolAt, inAt, notAt, wordAt, operatorAt}
-use Rattle.comparison.specs.Value.{lastNameIn, stringNameIn, versionNameIn, namedAt, quotedAt, valueAt}
+use Rattle.marker_verdict.specs.Found.{foundAt}
+use Rattle.marker_value.specs.Operator.{laterSymbolIn, symbolIn, symbolAt, inAt, notAt, wordAt, operatorAt}
+use Rattle.marker_value.specs.Value.{lastNameIn, stringNameIn, versionNameIn, namedAt, quotedAt, valueAt}
+use Rattle.arrays.specs.Front.{onto}
 use Rattle.name.specs.Normal.{normal, badAt}
 use Rattle.name.specs.Normalise.{normalised, output}
-use Rattle.text.specs.Answer.{Answer, good, refused}
-use Rattle.text.specs.Check.{checked}
-use Rattle.text.specs.Refusal.{given}
+use Rattle.refusal.specs.Answer.{Answer, good, refused}
+use Rattle.cursor.specs.Check.{checked}
+use Rattle.refusal.specs.Refusal.{given}
 use Rattle.text.specs.Scan.{run, skip}
 use Rattle.text.specs.Word.{bytes, beginsBy}
-use Rattle.text.specs.declared.refusal.Span.{Span}
-use Rattle.version.specs.Joined.{moreLen, more as moreJoined}
-use Rattle.version.specs.Layout.{epochLen, segmentLen, localLen, layout}
-use Rattle.version.specs.Number.{valueFrom, numberLen}
-use Rattle.version.specs.Part.{wordLen, partLen, postLen}
+use Rattle.refusal.specs.declared.place.Span.{Span}
+use Rattle.version_parts.specs.Joined.{moreLen, more as moreJoined}
+use Rattle.version_parts.specs.Local.{segmentLen, localLen}
+use Rattle.version_parts.specs.Release.{epochLen}
+use Rattle.version.specs.Layout.{layout}
+use Rattle.version_number.specs.Number.{valueFrom, numberLen}
+use Rattle.version_parts.specs.Part.{wordLen, partLen, postLen}
 use Rattle.version.specs.Reading.{pieces}
-use Rattle.version.specs.Rules.{isVersion, laterOperatorIn, operatorIn, goesWith, isSpecifier, allVersions, isVersionList}
-use Rattle.spans.specs.Reading.{listFrom, spansIn, outcome}
+use Rattle.version_operator.specs.Operator.{operatorAmong}
+use Rattle.version.specs.Rules.{isVersion, goesWith, isSpecifier, allVersions, isVersionList}
+use Rattle.spans.specs.Listing.{listFrom, spansIn, outcome}
 use Rattle.extras.specs.Entry.{entry}
-use Rattle.extras.specs.Item.{itemAt as extraItemAt}
-use Rattle.extras.specs.Reading.{extrasAt}
-use Rattle.url.specs.Url.{closesAt, stopsAt, firstFrom, urlEnd, goesOn, urlAt}
-use Rattle.specifiers.specs.Item.{textTo, itemAt as textItemAt}
-use Rattle.specifiers.specs.Reading.{bareAt, specifiersAt}
+use Rattle.line_extras.specs.Extra.{itemAt as extraItemAt}
+use Rattle.line_extras.specs.Extras.{extrasAt}
+use Rattle.line_url.specs.Url.{closesAt, stopsAt, firstFrom, urlEnd, goesOn, urlAt}
+use Rattle.line_specifiers.specs.Specifier.{textTo, itemAt as textItemAt}
+use Rattle.line_specifiers.specs.Specifiers.{bareAt, specifiersAt}
 use Rattle.line_name.specs.Name.{nameAt}
 use Rattle.line_head.specs.Head.{tailAt, wantedAt, textsAt, fromTail, fromWanted, fromExtras, head, textsFrom, extrasOf, textsOf}
 use Rattle.marker.specs.Answer.{markerAnswer}
 use Rattle.marker_steps.specs.Grammar.{keptOf, warnedOf, settled, settle, wordAhead, more, chain, itemAt, itemOf, andOf, orOf, closed, groupAt, ending, parseFrom}
 use Rattle.marker_steps.specs.Marking.{Marking, some, wordsFrom, program}
 use Rattle.line.specs.Line.{Parts, lineParts, lineAnswer}
-use Rattle.line.specs.declared.door.Url.{Url}
-use Rattle.line.specs.declared.door.Url.the-variants.{Absent, At}
+use Rattle.line.specs.declared.figures.Url.{Url}
+use Rattle.line.specs.declared.figures.Url.the-variants.{Absent, At}
 use Rattle.cases.proofs.Markers.{Row, short, joined}
 
 -- what is asked: an entry and its text, or a line's or a marker's bytes
@@ -172,5 +176,5 @@ table =
     ∷ []
 
 pub holds : map (λ e. replied (e .0)) table ≡ map (λ e. e .1) table
-unfolding given run skip beginsBy normal badAt moreLen moreJoined epochLen segmentLen localLen layout valueFrom numberLen wordLen partLen postLen pieces isVersion laterOperatorIn operatorIn goesWith isSpecifier allVersions isVersionList listFrom spansIn outcome extraItemAt extrasAt closesAt stopsAt firstFrom urlEnd goesOn urlAt textTo textItemAt bareAt specifiersAt nameAt tailAt wantedAt textsAt fromTail fromWanted fromExtras head textsFrom extrasOf textsOf laterSymbolIn symbolIn symbolAt inAt notAt wordAt operatorAt lastNameIn stringNameIn versionNameIn namedAt quotedAt valueAt foundAt keptOf warnedOf settled settle wordAhead more chain itemAt itemOf andOf orOf closed groupAt ending parseFrom some wordsFrom program lineParts
+unfolding given run skip beginsBy onto normal badAt moreLen moreJoined epochLen segmentLen localLen layout valueFrom numberLen wordLen partLen postLen pieces isVersion operatorAmong goesWith isSpecifier allVersions isVersionList listFrom spansIn outcome extraItemAt extrasAt closesAt stopsAt firstFrom urlEnd goesOn urlAt textTo textItemAt bareAt specifiersAt nameAt tailAt wantedAt textsAt fromTail fromWanted fromExtras head textsFrom extrasOf textsOf laterSymbolIn symbolIn symbolAt inAt notAt wordAt operatorAt lastNameIn stringNameIn versionNameIn namedAt quotedAt valueAt foundAt keptOf warnedOf settled settle wordAhead more chain itemAt itemOf andOf orOf closed groupAt ending parseFrom some wordsFrom program lineParts
 holds = refl

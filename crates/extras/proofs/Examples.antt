@@ -1,18 +1,19 @@
--- Worked examples: document 01's cases, the corners of DECISIONS, both sides of 32. Two tables, and one statement over them. Assumes nothing.
+-- Worked examples: document 01's cases, the corners of DECISIONS, both sides of 32. A table, and one statement over it. Assumes nothing.
 use mathlib.Core.List.{List, [], _∷_, _++_, map}
 use mathlib.Core.Path.{_≡_, refl}
 use Prim.Native.Nat.{ℕ, zero, suc, _+_}
 use lib.ListN.{replicate}
-use Rattle.text.specs.Answer.{Answer, good, refused}
-use Rattle.text.specs.Refusal.{span, given}
+use Rattle.arrays.specs.Front.{onto}
+use Rattle.refusal.specs.Answer.{Answer, good, refused}
+use Rattle.refusal.specs.Refusal.{span, given}
 use Rattle.text.specs.Scan.{run, skip}
 use Rattle.text.specs.Word.{bytes}
-use Rattle.text.specs.declared.refusal.Span.{Span}
-use Rattle.spans.specs.Flat.{flat, write}
-use Rattle.spans.specs.Reading.{listFrom, spansIn, outcome, counted}
+use Rattle.refusal.specs.declared.place.Span.{Span}
+use Rattle.spans.specs.Flat.{flat}
+use Rattle.spans.specs.Listing.{listFrom, spansIn, outcome}
 use Rattle.extras.specs.Entry.{entry, written}
-use Rattle.extras.specs.Item.{itemAt}
-use Rattle.extras.specs.Reading.{extrasAt}
+use Rattle.line_extras.specs.Extra.{itemAt}
+use Rattle.line_extras.specs.Extras.{extrasAt}
 
 -- `[` and n extras, each with its comma
 abbrev pub times : ℕ → List ℕ → List ℕ
@@ -66,18 +67,6 @@ texts =
     ∷ (bytes "[]" ++ replicate 4095 120, refused 1 4096 1)
     ∷ []
 
--- a line, a place, how many extras start there and where reading goes on, and what an array of three numbers then holds
-abbrev pub places : List (List ℕ × ℕ × Answer (ℕ × ℕ) × List ℕ)
-places =
-    (bytes "ab [c , de] >1", 3, good (2, 11), 4 ∷ 1 ∷ 8 ∷ [])
-    ∷ (bytes "ab >1", 3, good (0, 3), 7 ∷ 8 ∷ 9 ∷ [])
-    ∷ (bytes "ab[c!]", 2, refused 10 4 1, 7 ∷ 8 ∷ 9 ∷ [])
-    ∷ (bytes "ab[c,de", 2, refused 6 2 1, 3 ∷ 1 ∷ 5 ∷ [])
-    ∷ []
-
-pub holds : (map (λ e. entry (e .0)) texts ≡ map (λ e. e .1) texts)
-    × (map (λ e. counted (extrasAt (e .0) (e .1))) places ≡ map (λ e. e .2) places)
-    × (map (λ e. write (flat (spansIn (extrasAt (e .0) (e .1)))) (7 ∷ 8 ∷ 9 ∷ [])) places ≡ map (λ e. e .3) places)
-    × (written (entry (bytes "[,")) (7 ∷ 8 ∷ []) ≡ 7 ∷ 8 ∷ [])
-unfolding run skip given itemAt listFrom spansIn outcome extrasAt flat write
-holds = (refl, refl, refl, refl)
+pub holds : (map (λ e. entry (e .0)) texts ≡ map (λ e. e .1) texts) × (written (entry (bytes "[,")) (7 ∷ 8 ∷ []) ≡ 7 ∷ 8 ∷ [])
+unfolding run skip given itemAt listFrom spansIn outcome extrasAt flat onto
+holds = (refl, refl)

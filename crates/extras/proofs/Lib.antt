@@ -1,5 +1,3 @@
-pub mod Entries
 pub mod Examples
 pub mod Laws
 pub mod Own
-pub mod Within

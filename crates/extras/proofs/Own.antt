@@ -1,27 +1,20 @@
 -- The contracts in document 01's terms leave one answer. Assumes nothing.
-use mathlib.Core.Path.{_≡_, refl, ap}
+use mathlib.Core.Path.{_≡_, ap}
 use mathlib.Core.List.{List}
 use Prim.Native.Nat.{ℕ}
-use Rattle.text.proofs.Numbers.{given-own}
-use Rattle.text.specs.Answer.{Answer}
-use Rattle.text.specs.Refusal.{given}
-use Rattle.text.specs.declared.refusal.Span.{Span}
-use Rattle.extras.specs.Entry.{told, toldOutcome, toldCount}
+use Rattle.refusal.proofs.Numbers as Numbers
+use Rattle.refusal.proofs.Numbers.{given-own}
+use Rattle.refusal.specs.Answer.{Answer}
+use Rattle.refusal.specs.Refusal.{given}
+use Rattle.refusal.specs.declared.place.Span.{Span}
+use Rattle.extras.specs.Entry.{told, toldCount}
 use Rattle.extras.specs.declared.entry.Counted.{Counted}
 use Rattle.extras.specs.declared.entry.Counted.the-variants as Counted
 use Rattle.extras.specs.declared.entry.Extras.{Extras}
-use Rattle.extras.specs.declared.entry.Outcome.{Outcome}
-use Rattle.extras.specs.declared.entry.Outcome.the-variants.{Read, Refused}
-
-outcome-own : (v w : Outcome) → toldOutcome v ≡ toldOutcome w → v ≡ w
-outcome-own Read Read e = refl
-outcome-own Read (Refused w) e = unfold given in cc
-outcome-own (Refused v) Read e = unfold given in cc
-outcome-own (Refused v) (Refused w) e = ap Refused (given-own v w e)
 
 pub told-own : (v w : Extras) → told v ≡ told w → v ≡ w
 told-own v w e =
-    let a : v .outcome ≡ w .outcome = outcome-own (v .outcome) (w .outcome) (ap (λ (t : Answer (Unit {0}) × List Span × ℕ). t .0) e) in
+    let a : v .outcome ≡ w .outcome = Numbers.told-own (v .outcome) (w .outcome) (ap (λ (t : Answer (Unit {0}) × List Span × ℕ). t .0) e) in
     let b : v .extras ≡ w .extras = ap (λ (t : Answer (Unit {0}) × List Span × ℕ). t .1) e in
     let c : v .count ≡ w .count = ap (λ (t : Answer (Unit {0}) × List Span × ℕ). t .2) e in
     λ i. record { outcome = a i; extras = b i; count = c i }

@@ -1,3 +1,2 @@
+-- the extras entry, by its two doors
 pub mod Entry
-pub mod Item
-pub mod Reading

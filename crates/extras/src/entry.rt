@@ -1,26 +1,24 @@
 // Extras alone: refusals 1 and 2 over all bytes, then the extras that the text begins with. Two doors, one definition.
 ghost use mathlib.Core.Path.{_≡_};
-ghost use Rattle.text.specs.Refusal.{given};
-ghost use Rattle.spans.specs.Reading.{listIn};
+ghost use Rattle.refusal.specs.Refusal.{given};
+ghost use Rattle.spans.specs.Listing.{listIn};
 ghost use Rattle.extras.specs.Entry.{entry, filled, told, counts, written, toldCount};
-ghost use Rattle.extras.specs.Reading.{extrasAt};
-use crate::list::extras_at;
+ghost use Rattle.line_extras.specs.Extras.{extrasAt};
+use cursor::Cursor;
+use cursor::check_line;
+use line_extras::extras_at;
+use refusal::Offset;
+use refusal::Outcome;
+use refusal::Refusal;
+use refusal::Span;
+use spans::LIST_NUMBERS;
 use spans::Listed;
-use text::Checked;
-use text::Offset;
-use text::Refusal;
-use text::Span;
-use text::check_line;
-
-pub enum Outcome {
-    Read,
-    Refused(Refusal),
-}
+use spans::SpanNumbers;
 
 // The typed answer: past the count the list holds the span 0, 0.
 pub struct Extras {
     pub outcome: Outcome,
-    pub extras: [Span; 32],
+    pub extras: [Span; Cursor::MAX_LIST],
     pub count: usize,
 }
 
@@ -40,7 +38,7 @@ fn refused(why: Refusal) -> Extras
     };
     Extras {
         outcome: Outcome::Refused(why),
-        extras: [none; 32],
+        extras: [none; Cursor::MAX_LIST],
         count: 0,
     }
 }
@@ -48,10 +46,10 @@ fn refused(why: Refusal) -> Extras
 fn read_all(line: &[u8]) -> Extras
     ensures { λ r. ⌜ told r ≡ filled (listIn (extrasAt (now (line .entry)) 0)) ⌝ }
 {
-    let mut list = [0usize; 64];
+    let mut list = [0usize; LIST_NUMBERS];
     match extras_at(line, 0, &mut list) {
         Listed::Read(n, _) => Extras {
-            outcome: Outcome::Read,
+            outcome: Outcome::Good,
             extras: spans::gather(&list, n),
             count: n,
         },
@@ -63,16 +61,16 @@ pub fn read_extras(line: &[u8]) -> Extras
     ensures { λ r. ⌜ told r ≡ filled (entry (now (line .entry))) ⌝ }
 {
     match check_line(line) {
-        Checked::Good => read_all(line),
-        Checked::Refused(why) => refused(why),
+        Outcome::Good => read_all(line),
+        Outcome::Refused(why) => refused(why),
     }
 }
 
-fn write_all(line: &[u8], out: &mut [usize; 64]) -> Counted
+fn write_all(line: &[u8], out: &mut SpanNumbers) -> Counted
     ensures answer { λ r. ⌜ toldCount r ≡ counts (listIn (extrasAt (now (line .entry)) 0)) ⌝ }
     ensures output { λ r. ⌜ now (out .exit) ≡ written (listIn (extrasAt (now (line .entry)) 0)) (now (out .entry)) ⌝ }
 {
-    let mut found = [0usize; 64];
+    let mut found = [0usize; LIST_NUMBERS];
     match extras_at(line, 0, &mut found) {
         Listed::Read(n, _) => {
             spans::copy(&found, n, out);
@@ -83,12 +81,12 @@ fn write_all(line: &[u8], out: &mut [usize; 64]) -> Counted
 }
 
 // The quick door: the extras' starts and lengths go to the front of the lent array. A refusal leaves it as it was.
-pub fn extras_into(line: &[u8], out: &mut [usize; 64]) -> Counted
+pub fn extras_into(line: &[u8], out: &mut SpanNumbers) -> Counted
     ensures answer { λ r. ⌜ toldCount r ≡ counts (entry (now (line .entry))) ⌝ }
     ensures output { λ r. ⌜ now (out .exit) ≡ written (entry (now (line .entry))) (now (out .entry)) ⌝ }
 {
     match check_line(line) {
-        Checked::Good => write_all(line, out),
-        Checked::Refused(why) => Counted::Refused(why),
+        Outcome::Good => write_all(line, out),
+        Outcome::Refused(why) => Counted::Refused(why),
     }
 }

@@ -1,2 +1,2 @@
+-- the laws of what is left in `figures`
 pub mod Laws
-pub mod Zero

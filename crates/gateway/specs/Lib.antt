@@ -1,2 +1,4 @@
-pub mod Numbers
-pub mod Verdict
+-- what a function leaves in `figures`, and a line in its lists
+pub mod Figures
+-- a version, a pattern, a specifier by itself
+pub mod Texts

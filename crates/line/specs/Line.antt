@@ -1,26 +1,20 @@
 -- One requirement line.
 use Prim.Native.Nat.{ℕ}
 use mathlib.Core.List.{List, [], _∷_}
-use lib.ListN.{length}
-use Rattle.text.specs.Answer.{Answer, good, refused}
-use Rattle.text.specs.Check.{checked}
-use Rattle.text.specs.Refusal.{span}
-use Rattle.text.specs.declared.refusal.Span.{Span}
-use Rattle.spans.specs.Flat.{padded}
-use Rattle.spans.specs.Reading.{onGood}
-use Rattle.line_head.specs.Head.{andThen, head, extrasOf, textsOf}
+use Rattle.refusal.specs.Answer.{Answer, good, onGood, andThen, goodOr}
+use Rattle.cursor.specs.Check.{checked}
+use Rattle.refusal.specs.Refusal.{span}
+use Rattle.refusal.specs.declared.place.Span.{Span}
+use Rattle.line_head.specs.Head.{head, extrasOf, textsOf}
 use Rattle.line_head.specs.declared.part.Head.{Head}
 use Rattle.line_head.specs.declared.part.Tail.{Tail}
 use Rattle.line_head.specs.declared.part.Tail.the-variants as Tail
 use Rattle.line_head.specs.declared.part.Wanted.{Wanted}
 use Rattle.line_head.specs.declared.part.Wanted.the-variants as Wanted
-use Rattle.marker.specs.Answer.{markerAnswer, listsOf}
+use Rattle.marker.specs.Answer.{markerAnswer}
 use Rattle.marker_steps.specs.Marking.{Marking, nothing}
-use Rattle.marker.specs.declared.door.Outcome.{Outcome}
-use Rattle.line.specs.declared.door.Requirement.{Requirement}
-use Rattle.line.specs.declared.door.SpanList.{SpanList}
-use Rattle.line.specs.declared.door.Url.{Url}
-use Rattle.line.specs.declared.door.Url.the-variants as Url
+use Rattle.line.specs.declared.figures.Url.{Url}
+use Rattle.line.specs.declared.figures.Url.the-variants as Url
 
 -- what a line is read as: the spans of its parts, and its marker
 pub record Parts : Type 0 where
@@ -54,23 +48,9 @@ lineParts s = andThen (head s) (λ h. onGood (partsOf s h) (marked s (h .tail)))
 abbrev pub lineAnswer : List ℕ → Answer Parts
 lineAnswer s = checked s (lineParts s)
 
--- The typed door: whether the line was read, and each list in its array with filler behind it; "all lists are empty" on a refusal.
+-- "A refusal carries number, start, length and nothing else; all lists are empty."
 abbrev pub empty : Parts
 empty = record { name = span 0 0; extras = []; specifiers = []; url = Url.Absent; marking = nothing }
 
-abbrev pub listOf : List Span → SpanList
-listOf l = record { spans = padded l; count = length l }
-
-abbrev pub filled : Outcome → Parts → Requirement
-filled outcome p = record {
-  outcome = outcome;
-  name = p .name;
-  extras = listOf (p .extras);
-  specifiers = listOf (p .specifiers);
-  url = p .url;
-  marker = listsOf (p .marking);
-}
-
 abbrev pub shown : Answer Parts → Parts
-shown (good p) = p
-shown (refused number start len) = empty
+shown a = goodOr empty a

@@ -1,11 +1,9 @@
-// The whole requirement line: its parts, then its marker.
-mod door;
+// The line reader's quick door: a whole requirement line as numbers in lent arrays. The typed door is `line_typed`'s.
+mod figures;
 mod quick;
 
-pub use door::Requirement;
-pub use door::SpanList;
-pub use door::Url;
-pub use door::read_line;
-pub use quick::Figures;
+pub use figures::Figures;
+pub use figures::Url;
+pub use figures::url_of;
 pub use quick::QuickLine;
 pub use quick::read_line_into;

@@ -6,22 +6,23 @@ use Prim.Native.Nat.{ℕ, _+_, _≤_, zero-le}
 use Prim.Native.Char.{code}
 use lib.Dec.{eqb}
 use lib.ListN.{length}
-use Rattle.text.specs.Answer.{Answer, good, refused}
+use Rattle.refusal.specs.Answer.{Answer, good, refused, onGood, andThen}
 use Rattle.text.specs.Class.{isSpace}
 use Rattle.text.specs.Scan.{skip, byteAt}
-use Rattle.text.specs.declared.refusal.Span.{Span}
-use Rattle.spans.specs.Reading.{Reading, spansIn, outcome, onGood, counted}
-use Rattle.extras.proofs.Entries.{extras-few}
-use Rattle.extras.specs.Reading.{extrasAt}
+use Rattle.refusal.specs.declared.place.Span.{Span}
+use Rattle.spans.specs.Listing.{Listing, spansIn, outcome, counted}
+use Rattle.line_extras.proofs.Laws.{extras-few}
+use Rattle.line_extras.specs.Extras.{extrasAt}
 use Rattle.line_name.specs.Name.{nameAt}
-use Rattle.specifiers.proofs.Laws.{specifiers-few}
-use Rattle.specifiers.specs.Reading.{specifiersAt}
-use Rattle.url.specs.Url.{urlAt}
+use Rattle.line_specifiers.proofs.Laws.{specifiers-few}
+use Rattle.line_specifiers.specs.Specifiers.{specifiersAt}
+use Rattle.line_url.specs.Url.{urlAt}
 use Rattle.line_head.proofs.Within.{On, on-then}
-use Rattle.line_head.specs.Head.{andThen, behind, tailAt, byUrl, byList, wantedAt, textsAt, textCount, headOf, fromTail, fromWanted, fromExtras, head, textsFrom, extrasOf, textsOf}
+use Rattle.line_head.specs.Head.{behind, tailAt, byUrl, byList, wantedAt, textsAt, textCount, headOf, fromTail, fromWanted, fromExtras, head, textsFrom, extrasOf, textsOf}
 use Rattle.line_head.specs.declared.part.Head.{Head}
 use Rattle.line_head.specs.declared.part.Tail.{Tail}
 use Rattle.line_head.specs.declared.part.Wanted.{Wanted}
+use Rattle.cursor.specs.Limits.{maxList}
 
 pub record Counts (extras texts : List Span) (h : Head) : Type 0 where
   pub named : h .extras ≡ length extras
@@ -39,7 +40,7 @@ url-asks : (a : Answer (Span × ℕ)) → On (Asks []) (onGood byUrl a)
 url-asks (good u) = refl
 url-asks (refused number start len) = tt
 
-list-asks : (r : Reading) (a : Answer ℕ) → On (Asks (spansIn r)) (onGood byList (sized (spansIn r) a))
+list-asks : (r : Listing) (a : Answer ℕ) → On (Asks (spansIn r)) (onGood byList (sized (spansIn r) a))
 list-asks r (good at) = refl
 list-asks r (refused number start len) = tt
 
@@ -79,30 +80,30 @@ module _ (s : List ℕ) where
       go (good n) = extras-counts (n .0) (n .1)
       go (refused number start len) = tt
 
-  pub extras-of-few : length (extrasOf s) ≤ 32
+  pub extras-of-few : length (extrasOf s) ≤ maxList
   unfolding extrasOf
   extras-of-few = go (nameAt s)
     where
-      go : (a : Answer (Span × ℕ)) → length (behind a (λ n. spansIn (extrasAt s (skip isSpace s (n .1))))) ≤ 32
+      go : (a : Answer (Span × ℕ)) → length (behind a (λ n. spansIn (extrasAt s (skip isSpace s (n .1))))) ≤ maxList
       go (good n) = extras-few s (skip isSpace s (n .1))
       go (refused number start len) = zero-le
 
-  texts-few : (at : ℕ) → length (textsAt s at) ≤ 32
+  texts-few : (at : ℕ) → length (textsAt s at) ≤ maxList
   unfolding textsAt
   texts-few at = go (eqb (byteAt s at) (code "@"))
     where
-      go : (t : Bool) → length (cond t [] (spansIn (specifiersAt s at))) ≤ 32
+      go : (t : Bool) → length (cond t [] (spansIn (specifiersAt s at))) ≤ maxList
       go true = zero-le
       go false = specifiers-few s at
 
-  pub texts-of-few : length (textsOf s) ≤ 32
+  pub texts-of-few : length (textsOf s) ≤ maxList
   unfolding textsOf textsFrom
   texts-of-few = go (nameAt s)
     where
-      in-extras : (a : Answer (ℕ × ℕ)) → length (behind a (λ e. textsAt s (skip isSpace s (e .1)))) ≤ 32
+      in-extras : (a : Answer (ℕ × ℕ)) → length (behind a (λ e. textsAt s (skip isSpace s (e .1)))) ≤ maxList
       in-extras (good e) = texts-few (skip isSpace s (e .1))
       in-extras (refused number start len) = zero-le
 
-      go : (a : Answer (Span × ℕ)) → length (behind a (λ n. behind (counted (extrasAt s (skip isSpace s (n .1)))) (λ e. textsAt s (skip isSpace s (e .1))))) ≤ 32
+      go : (a : Answer (Span × ℕ)) → length (behind a (λ n. behind (counted (extrasAt s (skip isSpace s (n .1)))) (λ e. textsAt s (skip isSpace s (e .1))))) ≤ maxList
       go (good n) = in-extras (counted (extrasAt s (skip isSpace s (n .1))))
       go (refused number start len) = zero-le

@@ -2,23 +2,26 @@
 use mathlib.Core.List.{List, [], _∷_, map}
 use mathlib.Core.Path.{_≡_, refl}
 use Prim.Native.Nat.{ℕ}
-use Rattle.text.specs.Answer.{Answer, good, refused}
-use Rattle.text.specs.Cursor.{cursor}
-use Rattle.text.specs.Refusal.{span, given}
+use Rattle.refusal.specs.Answer.{Answer, good, refused}
+use Rattle.cursor.specs.Cursor.{cursor}
+use Rattle.refusal.specs.Refusal.{span, given}
 use Rattle.text.specs.Scan.{run, skip}
 use Rattle.text.specs.Word.{bytes, beginsBy}
-use Rattle.spans.specs.Reading.{listFrom, spansIn, outcome}
-use Rattle.extras.specs.Item as Extras
-use Rattle.extras.specs.Reading.{extrasAt}
+use Rattle.spans.specs.Listing.{listFrom, spansIn, outcome}
+use Rattle.line_extras.specs.Extra as Extras
+use Rattle.line_extras.specs.Extras.{extrasAt}
 use Rattle.line_name.specs.Name.{nameAt}
-use Rattle.specifiers.specs.Item as Specifiers
-use Rattle.specifiers.specs.Reading.{bareAt, specifiersAt}
-use Rattle.url.specs.Url.{closesAt, stopsAt, firstFrom, urlEnd, goesOn, urlAt}
-use Rattle.version.specs.Joined.{moreLen, more}
-use Rattle.version.specs.Layout.{epochLen, segmentLen, localLen, layout}
-use Rattle.version.specs.Number.{valueFrom, numberLen}
-use Rattle.version.specs.Part.{wordLen, partLen, postLen}
-use Rattle.version.specs.Rules.{laterOperatorIn, operatorIn, goesWith, isSpecifier}
+use Rattle.line_specifiers.specs.Specifier as Specifiers
+use Rattle.line_specifiers.specs.Specifiers.{bareAt, specifiersAt}
+use Rattle.line_url.specs.Url.{closesAt, stopsAt, firstFrom, urlEnd, goesOn, urlAt}
+use Rattle.version_parts.specs.Joined.{moreLen, more}
+use Rattle.version_parts.specs.Local.{segmentLen, localLen}
+use Rattle.version_parts.specs.Release.{epochLen}
+use Rattle.version.specs.Layout.{layout}
+use Rattle.version_number.specs.Number.{valueFrom, numberLen}
+use Rattle.version_parts.specs.Part.{wordLen, partLen, postLen}
+use Rattle.version_operator.specs.Operator.{operatorAmong}
+use Rattle.version.specs.Rules.{goesWith, isSpecifier}
 use Rattle.line_head.specs.Head.{tailAt, wantedAt, textsAt, headOf, fromTail, fromWanted, fromExtras, head, textsFrom, extrasOf, textsOf}
 use Rattle.line_head.specs.declared.part.Head.{Head}
 use Rattle.line_head.specs.declared.part.Tail.the-variants.{End, Marker}
@@ -67,5 +70,5 @@ pub holds : (map (λ e. head (e .0)) table ≡ map (λ e. e .1) table)
     × (extrasOf (bytes "name [fred,bar] >= 3, <2;x") ≡ span 6 4 ∷ span 11 3 ∷ [])
     × (textsOf (bytes "name [fred,bar] >= 3, <2;x") ≡ span 16 4 ∷ span 21 3 ∷ [])
     × (textsOf (bytes "a @ x") ≡ [])
-unfolding run skip given beginsBy moreLen more epochLen segmentLen localLen layout valueFrom numberLen wordLen partLen postLen laterOperatorIn operatorIn goesWith isSpecifier Specifiers.textTo Specifiers.itemAt bareAt specifiersAt Extras.itemAt extrasAt listFrom spansIn outcome nameAt closesAt stopsAt firstFrom urlEnd goesOn urlAt tailAt wantedAt textsAt fromTail fromWanted fromExtras head textsFrom extrasOf textsOf
+unfolding run skip given beginsBy moreLen more epochLen segmentLen localLen layout valueFrom numberLen wordLen partLen postLen operatorAmong goesWith isSpecifier Specifiers.textTo Specifiers.itemAt bareAt specifiersAt Extras.itemAt extrasAt listFrom spansIn outcome nameAt closesAt stopsAt firstFrom urlEnd goesOn urlAt tailAt wantedAt textsAt fromTail fromWanted fromExtras head textsFrom extrasOf textsOf
 holds = (refl, refl, refl, refl)

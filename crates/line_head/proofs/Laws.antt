@@ -7,32 +7,34 @@ use Prim.Native.Char.{code}
 use borrow.Author.Tests.{lt-ltb, le-ltb}
 use lib.Dec.{eqb}
 use lib.ListN.{length}
-use Rattle.text.proofs.Laws.{scan, given-is}
+use Rattle.arrays.specs.Front.{onto}
+use Rattle.cursor.proofs.Laws.{scan}
+use Rattle.refusal.proofs.Numbers.{given-is}
 use Rattle.text.proofs.Places.{places}
-use Rattle.text.specs.Answer.{Answer, good}
+use Rattle.refusal.specs.Answer.{Answer, good, onGood}
 use Rattle.text.specs.Class.{isSpace}
-use Rattle.text.specs.Cursor.{cursor}
-use Rattle.text.specs.Refusal.{refusal, given}
+use Rattle.cursor.specs.Cursor.{cursor}
+use Rattle.refusal.specs.Refusal.{refusal, given}
 use Rattle.text.specs.Scan.{skip, byteAt}
-use Rattle.text.specs.declared.cursor.Cursor.{Cursor}
-use Rattle.text.specs.declared.refusal.Fault.the-variants.{LineGoesOn}
-use Rattle.text.specs.declared.refusal.Refusal.{Refusal}
-use Rattle.text.specs.declared.refusal.Span.{Span}
-use Rattle.spans.specs.Flat.{flat, write, over}
-use Rattle.spans.specs.Reading as Reading
-use Rattle.spans.specs.Reading.{spansIn, onGood, counted}
+use Rattle.cursor.specs.declared.cursor.Cursor.{Cursor}
+use Rattle.refusal.specs.declared.fault.Fault.the-variants.{LineGoesOn}
+use Rattle.refusal.specs.declared.fault.Refusal.{Refusal}
+use Rattle.refusal.specs.declared.place.Span.{Span}
+use Rattle.spans.specs.Flat.{flat, spansOnto}
+use Rattle.spans.specs.Listing as Listing
+use Rattle.spans.specs.Listing.{spansIn, counted}
 use Rattle.spans.specs.declared.item.Listed.{Listed}
 use Rattle.spans.specs.declared.item.Listed.the-variants as Listed
-use Rattle.extras.specs.Reading.{extrasAt}
+use Rattle.line_extras.specs.Extras.{extrasAt}
 use Rattle.line_name.specs.Name as Name
 use Rattle.line_name.specs.Name.{nameAt}
 use Rattle.line_name.specs.declared.Named.{Named}
 use Rattle.line_name.specs.declared.Named.the-variants as Named
-use Rattle.specifiers.specs.Reading.{specifiersAt}
-use Rattle.url.specs.Url as Url
-use Rattle.url.specs.Url.{urlAt}
-use Rattle.url.specs.declared.Address.{Address}
-use Rattle.url.specs.declared.Address.the-variants as Address
+use Rattle.line_specifiers.specs.Specifiers.{specifiersAt}
+use Rattle.line_url.specs.Url as Url
+use Rattle.line_url.specs.Url.{urlAt}
+use Rattle.line_url.specs.declared.Address.{Address}
+use Rattle.line_url.specs.declared.Address.the-variants as Address
 use Rattle.line_head.specs.Head.{tailAt, byUrl, byList, wantedAt, textsAt, headOf, fromTail, fromWanted, fromExtras, head, textsFrom, extrasOf, textsOf, toldTail, toldWanted}
 use Rattle.line_head.specs.declared.part.Head.{Head}
 use Rattle.line_head.specs.declared.part.Tail.{Tail}
@@ -45,8 +47,8 @@ use Rattle.line_head.specs.declared.part.WantedRead.{WantedRead}
 use Rattle.line_head.specs.declared.part.WantedRead.the-variants as WantedRead
 
 -- nothing written leaves an array as it was
-unwritten : (old : List ℕ) → old ≡ over [] old
-unfolding flat write
+unwritten : (old : List ℕ) → old ≡ spansOnto [] old
+unfolding flat onto
 unwritten old = refl
 
 -- a refusal is one whatever the answer would hold
@@ -77,7 +79,7 @@ module _ (a : Answer (Span × ℕ)) (k : Address) (made : Url.told k ≡ a) wher
   pub url-refused : (why : Refusal) → k ≡ Address.Refused why → given why ≡ onGood byUrl a
   url-refused why e = rw (← made, e) (refused-on byUrl why)
 
-module _ (a : Answer (ℕ × ℕ)) (k : Listed) (made : Reading.told k ≡ a) where
+module _ (a : Answer (ℕ × ℕ)) (k : Listed) (made : Listing.told k ≡ a) where
   pub list-read : (n : ℕ) (next : Cursor) → k ≡ Listed.Read n next → good (Wanted.Specifiers n, next .at) ≡ onGood byList a
   list-read n next e = rw (← made, e)
 
@@ -93,11 +95,11 @@ module _ (s : List ℕ) (at : ℕ) (r : Bool) (test : r ≡ eqb (byteAt s at) (c
   unfolding wantedAt
   wanted-list z t e = rw (← test, t) e
 
-  pub texts-none : (old : List ℕ) → r ≡ true → old ≡ over (textsAt s at) old
+  pub texts-none : (old : List ℕ) → r ≡ true → old ≡ spansOnto (textsAt s at) old
   unfolding textsAt
   texts-none old t = rw (← test, t) (unwritten old)
 
-  pub texts-list : (list old : List ℕ) → r ≡ false → list ≡ over (spansIn (specifiersAt s at)) old → list ≡ over (textsAt s at) old
+  pub texts-list : (list old : List ℕ) → r ≡ false → list ≡ spansOnto (spansIn (specifiersAt s at)) old → list ≡ spansOnto (textsAt s at) old
   unfolding textsAt
   texts-list list old t e = rw (← test, t) e
 
@@ -122,11 +124,11 @@ module _ (s : List ℕ) (from at : ℕ) (spaces : at ≡ skip isSpace s from) wh
     unfolding fromWanted given
     wanted-refused why e = rw (← spaces, ← made, e)
 
-  pub texts-place : (list old : List ℕ) → list ≡ over (textsAt s at) old → list ≡ over (textsAt s (skip isSpace s from)) old
+  pub texts-place : (list old : List ℕ) → list ≡ spansOnto (textsAt s at) old → list ≡ spansOnto (textsAt s (skip isSpace s from)) old
   texts-place list old e = rw (← spaces) e
 
   -- after whitespace the extras
-  module _ (name : Span) (k : Listed) (made : Reading.told k ≡ counted (extrasAt s at)) where
+  module _ (name : Span) (k : Listed) (made : Listing.told k ≡ counted (extrasAt s at)) where
     module _ (n : ℕ) (past : Cursor) (e : k ≡ Listed.Read n past) where
       read-is : counted (extrasAt s (skip isSpace s from)) ≡ good (n, past .at)
       read-is = rw (← spaces, ← made, e)
@@ -135,7 +137,7 @@ module _ (s : List ℕ) (from at : ℕ) (spaces : at ≡ skip isSpace s from) wh
       unfolding fromExtras
       extras-read z f = rw read-is f
 
-      pub texts-read : (list old : List ℕ) → list ≡ over (textsAt s (skip isSpace s (past .at))) old → list ≡ over (textsFrom s from) old
+      pub texts-read : (list old : List ℕ) → list ≡ spansOnto (textsAt s (skip isSpace s (past .at))) old → list ≡ spansOnto (textsFrom s from) old
       unfolding textsFrom
       texts-read list old f = rw read-is f
 
@@ -147,11 +149,11 @@ module _ (s : List ℕ) (from at : ℕ) (spaces : at ≡ skip isSpace s from) wh
       unfolding fromExtras given
       extras-refused = rw refused-is
 
-      pub texts-refused : (old : List ℕ) → old ≡ over (textsFrom s from) old
+      pub texts-refused : (old : List ℕ) → old ≡ spansOnto (textsFrom s from) old
       unfolding textsFrom given
       texts-refused old = rw refused-is (unwritten old)
 
-  pub extras-place : (list old : List ℕ) → list ≡ over (spansIn (extrasAt s at)) old → list ≡ over (spansIn (extrasAt s (skip isSpace s from))) old
+  pub extras-place : (list old : List ℕ) → list ≡ spansOnto (spansIn (extrasAt s at)) old → list ≡ spansOnto (spansIn (extrasAt s (skip isSpace s from))) old
   extras-place list old e = rw (← spaces) e
 
 -- the name first
@@ -161,11 +163,11 @@ module _ (s : List ℕ) (k : Named) (made : Name.told k ≡ nameAt s) where
     unfolding head
     head-read z f = rw (← made, e) f
 
-    pub head-extras : (list old : List ℕ) → list ≡ over (spansIn (extrasAt s (skip isSpace s (next .at)))) old → list ≡ over (extrasOf s) old
+    pub head-extras : (list old : List ℕ) → list ≡ spansOnto (spansIn (extrasAt s (skip isSpace s (next .at)))) old → list ≡ spansOnto (extrasOf s) old
     unfolding extrasOf
     head-extras list old f = rw (← made, e) f
 
-    pub head-texts : (list old : List ℕ) → list ≡ over (textsFrom s (next .at)) old → list ≡ over (textsOf s) old
+    pub head-texts : (list old : List ℕ) → list ≡ spansOnto (textsFrom s (next .at)) old → list ≡ spansOnto (textsOf s) old
     unfolding textsOf
     head-texts list old f = rw (← made, e) f
 
@@ -174,11 +176,11 @@ module _ (s : List ℕ) (k : Named) (made : Name.told k ≡ nameAt s) where
     unfolding head given
     head-refused = rw (← made, e)
 
-    pub no-extras : (old : List ℕ) → old ≡ over (extrasOf s) old
+    pub no-extras : (old : List ℕ) → old ≡ spansOnto (extrasOf s) old
     unfolding extrasOf given
     no-extras old = rw (← made, e) (unwritten old)
 
-    pub no-texts : (old : List ℕ) → old ≡ over (textsOf s) old
+    pub no-texts : (old : List ℕ) → old ≡ spansOnto (textsOf s) old
     unfolding textsOf given
     no-texts old = rw (← made, e) (unwritten old)
 

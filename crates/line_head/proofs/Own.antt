@@ -1,7 +1,7 @@
 -- The contract in document 01's terms leaves one answer. Assumes nothing.
 use mathlib.Core.Path.{_≡_, ap}
-use Rattle.text.proofs.Numbers.{given-own}
-use Rattle.text.specs.Refusal.{given}
+use Rattle.refusal.proofs.Numbers.{given-own}
+use Rattle.refusal.specs.Refusal.{given}
 use Rattle.line_head.specs.Head.{told}
 use Rattle.line_head.specs.declared.part.HeadRead.{HeadRead}
 use Rattle.line_head.specs.declared.part.HeadRead.the-variants.{Read, Refused}

@@ -8,14 +8,14 @@ use native.Mathlib.Omega.{arith}
 use borrow.Author.Tests.{ltb-true, eqb-true}
 use lib.Dec.{ltb, eqb}
 use lib.ListN.{length}
-use Rattle.text.specs.Answer.{Answer, good, refused}
+use Rattle.refusal.specs.Answer.{Answer, good, refused, onGood, andThen}
 use Rattle.text.specs.Class.{isSpace}
-use Rattle.text.specs.Cursor.{cursor}
+use Rattle.cursor.specs.Cursor.{cursor}
 use Rattle.text.specs.Scan.{skip, byteAt}
-use Rattle.spans.specs.Reading.{onGood, counted}
-use Rattle.extras.specs.Reading.{extrasAt}
+use Rattle.spans.specs.Listing.{counted}
+use Rattle.line_extras.specs.Extras.{extrasAt}
 use Rattle.line_name.specs.Name.{nameAt}
-use Rattle.line_head.specs.Head.{andThen, tailAt, wantedAt, headOf, fromTail, fromWanted, fromExtras, head}
+use Rattle.line_head.specs.Head.{tailAt, wantedAt, headOf, fromTail, fromWanted, fromExtras, head}
 use Rattle.line_head.specs.declared.part.Head.{Head}
 use Rattle.line_head.specs.declared.part.Tail.{Tail}
 use Rattle.line_head.specs.declared.part.Tail.the-variants.{End, Marker}

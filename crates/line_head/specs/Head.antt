@@ -5,17 +5,17 @@ use mathlib.Core.Bool.{cond}
 use mathlib.Core.List.{List, []}
 use lib.Dec.{ltb, eqb}
 use lib.ListN.{length}
-use Rattle.text.specs.Answer.{Answer, good, refused}
+use Rattle.refusal.specs.Answer.{Answer, good, refused, andThen, onGood}
 use Rattle.text.specs.Class.{isSpace}
-use Rattle.text.specs.Cursor.{cursor}
-use Rattle.text.specs.Refusal.{given}
+use Rattle.cursor.specs.Cursor.{cursor}
+use Rattle.refusal.specs.Refusal.{given}
 use Rattle.text.specs.Scan.{skip, byteAt}
-use Rattle.text.specs.declared.refusal.Span.{Span}
-use Rattle.spans.specs.Reading.{spansIn, onGood, counted}
-use Rattle.extras.specs.Reading.{extrasAt}
+use Rattle.refusal.specs.declared.place.Span.{Span}
+use Rattle.spans.specs.Listing.{spansIn, counted}
+use Rattle.line_extras.specs.Extras.{extrasAt}
 use Rattle.line_name.specs.Name.{nameAt}
-use Rattle.specifiers.specs.Reading.{specifiersAt}
-use Rattle.url.specs.Url.{urlAt}
+use Rattle.line_specifiers.specs.Specifiers.{specifiersAt}
+use Rattle.line_url.specs.Url.{urlAt}
 use Rattle.line_head.specs.declared.part.Head.{Head}
 use Rattle.line_head.specs.declared.part.HeadRead.{HeadRead}
 use Rattle.line_head.specs.declared.part.HeadRead.the-variants as HeadRead
@@ -27,11 +27,6 @@ use Rattle.line_head.specs.declared.part.Wanted.{Wanted}
 use Rattle.line_head.specs.declared.part.Wanted.the-variants as Wanted
 use Rattle.line_head.specs.declared.part.WantedRead.{WantedRead}
 use Rattle.line_head.specs.declared.part.WantedRead.the-variants as WantedRead
-
--- the parts one after another: the first fault from left to right is the answer
-abbrev pub andThen : {A B : Type 0} → Answer A → (A → Answer B) → Answer B
-andThen (good a) next = next a
-andThen (refused number start len) next = refused number start len
 
 -- what was read behind a part, nothing where it was refused
 abbrev pub behind : {A : Type 0} → Answer A → (A → List Span) → List Span
@@ -84,12 +79,18 @@ fromExtras s name at = andThen (counted (extrasAt s (skip isSpace s at))) (λ e.
 unfoldable pub head : List ℕ → Answer Head
 head s = andThen (nameAt s) (λ n. fromExtras s (n .0) (n .1))
 
--- the extras and the specifiers that were read
+-- the extras and the specifiers that were read: behind the name, behind the extras, and both from the line's start
+abbrev pub extrasBehind : List ℕ → ℕ → List Span
+extrasBehind s at = spansIn (extrasAt s (skip isSpace s at))
+
+abbrev pub textsBehind : List ℕ → ℕ → List Span
+textsBehind s at = textsAt s (skip isSpace s at)
+
 unfoldable pub textsFrom : List ℕ → ℕ → List Span
-textsFrom s at = behind (counted (extrasAt s (skip isSpace s at))) (λ e. textsAt s (skip isSpace s (e .1)))
+textsFrom s at = behind (counted (extrasAt s (skip isSpace s at))) (λ e. textsBehind s (e .1))
 
 unfoldable pub extrasOf : List ℕ → List Span
-extrasOf s = behind (nameAt s) (λ n. spansIn (extrasAt s (skip isSpace s (n .1))))
+extrasOf s = behind (nameAt s) (λ n. extrasBehind s (n .1))
 
 unfoldable pub textsOf : List ℕ → List Span
 textsOf s = behind (nameAt s) (λ n. textsFrom s (n .1))

@@ -1,1 +1,2 @@
+-- the parts of a line before its marker
 pub mod Head

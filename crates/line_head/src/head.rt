@@ -1,11 +1,7 @@
 // The parts of a line before its marker, one after another.
 ghost use mathlib.Core.Path.{_≡_};
-ghost use Rattle.spans.specs.Flat.{over};
-ghost use Rattle.spans.specs.Reading.{spansIn};
-ghost use Rattle.extras.specs.Reading.{extrasAt};
-ghost use Rattle.text.specs.Class.{isSpace};
-ghost use Rattle.text.specs.Scan.{skip};
-ghost use Rattle.line_head.specs.Head.{textsAt, fromTail, fromWanted, fromExtras, head, textsFrom, extrasOf, textsOf, told};
+ghost use Rattle.spans.specs.Flat.{spansOnto};
+ghost use Rattle.line_head.specs.Head.{extrasBehind, textsBehind, fromTail, fromWanted, fromExtras, head, textsFrom, extrasOf, textsOf, told};
 use crate::part::Head;
 use crate::part::HeadRead;
 use crate::part::TailRead;
@@ -13,12 +9,13 @@ use crate::part::Wanted;
 use crate::part::WantedRead;
 use crate::part::tail_at;
 use crate::part::wanted_at;
-use extras::extras_at;
+use cursor::Cursor;
+use line_extras::extras_at;
 use line_name::Named;
 use line_name::name_at;
+use refusal::Span;
 use spans::Listed;
-use text::Cursor;
-use text::Span;
+use spans::SpanNumbers;
 
 fn from_tail(line: &[u8], name: Span, extras: usize, wanted: Wanted, next: Cursor) -> HeadRead
     ensures { λ r. ⌜ told r ≡ fromTail (now (line .entry)) name extras wanted (next .at) ⌝ }
@@ -40,10 +37,11 @@ fn from_wanted(
     name: Span,
     extras: usize,
     next: Cursor,
-    texts: &mut [usize; 64],
+    texts: &mut SpanNumbers,
 ) -> HeadRead
     ensures answer { λ r. ⌜ told r ≡ fromWanted (now (line .entry)) name extras (next .at) ⌝ }
-    ensures written { λ r. ⌜ now (texts .exit) ≡ over (textsAt (now (line .entry)) (skip isSpace (now (line .entry)) (next .at))) (now (texts .entry)) ⌝ }
+    ensures written { λ r. ⌜ now (texts .exit)
+        ≡ spansOnto (textsBehind (now (line .entry)) (next .at)) (now (texts .entry)) ⌝ }
 {
     let at = next.skip_whitespace(line).at;
     match wanted_at(line, at, texts) {
@@ -56,12 +54,14 @@ fn from_extras(
     line: &[u8],
     name: Span,
     next: Cursor,
-    list: &mut [usize; 64],
-    texts: &mut [usize; 64],
+    list: &mut SpanNumbers,
+    texts: &mut SpanNumbers,
 ) -> HeadRead
     ensures answer { λ r. ⌜ told r ≡ fromExtras (now (line .entry)) name (next .at) ⌝ }
-    ensures extras { λ r. ⌜ now (list .exit) ≡ over (spansIn (extrasAt (now (line .entry)) (skip isSpace (now (line .entry)) (next .at)))) (now (list .entry)) ⌝ }
-    ensures written { λ r. ⌜ now (texts .exit) ≡ over (textsFrom (now (line .entry)) (next .at)) (now (texts .entry)) ⌝ }
+    ensures extras { λ r. ⌜ now (list .exit)
+        ≡ spansOnto (extrasBehind (now (line .entry)) (next .at)) (now (list .entry)) ⌝ }
+    ensures written { λ r. ⌜ now (texts .exit)
+        ≡ spansOnto (textsFrom (now (line .entry)) (next .at)) (now (texts .entry)) ⌝ }
 {
     let at = next.skip_whitespace(line).at;
     match extras_at(line, at, list) {
@@ -71,10 +71,10 @@ fn from_extras(
 }
 
 // The parts of a line: the extras go to the first array, the specifiers to the second.
-pub fn head_of(line: &[u8], list: &mut [usize; 64], texts: &mut [usize; 64]) -> HeadRead
+pub fn head_of(line: &[u8], list: &mut SpanNumbers, texts: &mut SpanNumbers) -> HeadRead
     ensures answer { λ r. ⌜ told r ≡ head (now (line .entry)) ⌝ }
-    ensures extras { λ r. ⌜ now (list .exit) ≡ over (extrasOf (now (line .entry))) (now (list .entry)) ⌝ }
-    ensures written { λ r. ⌜ now (texts .exit) ≡ over (textsOf (now (line .entry))) (now (texts .entry)) ⌝ }
+    ensures extras { λ r. ⌜ now (list .exit) ≡ spansOnto (extrasOf (now (line .entry))) (now (list .entry)) ⌝ }
+    ensures written { λ r. ⌜ now (texts .exit) ≡ spansOnto (textsOf (now (line .entry))) (now (texts .entry)) ⌝ }
 {
     match name_at(line) {
         Named::Read(name, next) => from_extras(line, name, next, list, texts),

@@ -7,3 +7,4 @@ pub use part::Head;
 pub use part::HeadRead;
 pub use part::Tail;
 pub use part::Wanted;
+pub use part::text_count;

@@ -1,18 +1,20 @@
 // The parts behind the extras, each at its place.
 ghost use mathlib.Core.Path.{_≡_};
-ghost use Rattle.spans.specs.Flat.{over};
-ghost use Rattle.spans.specs.Reading.{spansIn, onGood, counted};
-ghost use Rattle.specifiers.specs.Reading.{specifiersAt};
-ghost use Rattle.url.specs.Url.{urlAt};
-ghost use Rattle.line_head.specs.Head.{tailAt, byUrl, byList, wantedAt, textsAt, toldTail, toldWanted};
+ghost use Rattle.spans.specs.Flat.{spansOnto};
+ghost use Rattle.spans.specs.Listing.{readOnto, counted};
+ghost use Rattle.refusal.specs.Answer.{onGood};
+ghost use Rattle.line_specifiers.specs.Specifiers.{specifiersAt};
+ghost use Rattle.line_url.specs.Url.{urlAt};
+ghost use Rattle.line_head.specs.Head.{textCount, tailAt, byUrl, byList, wantedAt, textsAt, toldTail, toldWanted};
+use cursor::Cursor;
+use line_specifiers::specifiers_at;
+use line_url::Address;
+use line_url::url_at;
+use refusal::Fault;
+use refusal::Refusal;
+use refusal::Span;
 use spans::Listed;
-use specifiers::specifiers_at;
-use text::Cursor;
-use text::Fault;
-use text::Refusal;
-use text::Span;
-use url::Address;
-use url::url_at;
+use spans::SpanNumbers;
 
 pub enum Wanted {
     // So many specifiers, which may be none.
@@ -48,6 +50,15 @@ pub enum TailRead {
     Refused(Refusal),
 }
 
+pub fn text_count(wanted: Wanted) -> usize
+    ensures { λ r. ⌜ r ≡ textCount wanted ⌝ }
+{
+    match wanted {
+        Wanted::Specifiers(n) => n,
+        Wanted::Url(_) => 0,
+    }
+}
+
 // What ends the parts: the line's end, or the `;` of a marker.
 pub fn tail_at(line: &[u8], at: usize) -> TailRead
     ensures { λ r. ⌜ toldTail r ≡ tailAt (now (line .entry)) at ⌝ }
@@ -70,9 +81,9 @@ fn address(line: &[u8], at: usize) -> WantedRead
     }
 }
 
-fn list(line: &[u8], at: usize, texts: &mut [usize; 64]) -> WantedRead
+fn list(line: &[u8], at: usize, texts: &mut SpanNumbers) -> WantedRead
     ensures answer { λ r. ⌜ toldWanted r ≡ onGood byList (counted (specifiersAt (now (line .entry)) at)) ⌝ }
-    ensures written { λ r. ⌜ now (texts .exit) ≡ over (spansIn (specifiersAt (now (line .entry)) at)) (now (texts .entry)) ⌝ }
+    ensures written { λ r. ⌜ now (texts .exit) ≡ readOnto (specifiersAt (now (line .entry)) at) (now (texts .entry)) ⌝ }
 {
     match specifiers_at(line, at, texts) {
         Listed::Read(n, next) => WantedRead::Read(Wanted::Specifiers(n), next),
@@ -81,9 +92,9 @@ fn list(line: &[u8], at: usize, texts: &mut [usize; 64]) -> WantedRead
 }
 
 // The URL behind an `@`, or else the specifiers.
-pub fn wanted_at(line: &[u8], at: usize, texts: &mut [usize; 64]) -> WantedRead
+pub fn wanted_at(line: &[u8], at: usize, texts: &mut SpanNumbers) -> WantedRead
     ensures answer { λ r. ⌜ toldWanted r ≡ wantedAt (now (line .entry)) at ⌝ }
-    ensures written { λ r. ⌜ now (texts .exit) ≡ over (textsAt (now (line .entry)) at) (now (texts .entry)) ⌝ }
+    ensures written { λ r. ⌜ now (texts .exit) ≡ spansOnto (textsAt (now (line .entry)) at) (now (texts .entry)) ⌝ }
 {
     if text::has(line, at, b'@') {
         return address(line, at + 1);

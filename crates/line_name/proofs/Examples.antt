@@ -2,11 +2,11 @@
 use mathlib.Core.List.{List, [], _∷_, map}
 use mathlib.Core.Path.{_≡_, refl}
 use Prim.Native.Nat.{ℕ}
-use Rattle.text.specs.Answer.{Answer, good, refused}
-use Rattle.text.specs.Refusal.{span}
+use Rattle.refusal.specs.Answer.{Answer, good, refused}
+use Rattle.refusal.specs.Refusal.{span}
 use Rattle.text.specs.Scan.{run, skip}
 use Rattle.text.specs.Word.{bytes}
-use Rattle.text.specs.declared.refusal.Span.{Span}
+use Rattle.refusal.specs.declared.place.Span.{Span}
 use Rattle.line_name.specs.Name.{nameAt}
 
 -- a line, the name's span and the place behind it

@@ -6,15 +6,17 @@ use Prim.Native.Nat.{ℕ, _+_, _≤_, _<_}
 use native.Mathlib.Omega.{arith}
 use borrow.Author.Tests.{lt-ltb, le-ltb}
 use lib.ListN.{length}
-use Rattle.text.proofs.Laws.{scan, skip-on, given-is}
+use Rattle.cursor.proofs.Laws.{scan}
+use Rattle.refusal.proofs.Numbers.{given-is}
+use Rattle.text.proofs.Laws.{skip-on}
 use Rattle.text.proofs.Reach.{skip-from}
-use Rattle.text.specs.Answer.{Answer, good}
+use Rattle.refusal.specs.Answer.{Answer, good}
 use Rattle.text.specs.Class.{isSpace, isAlnum, isNameByte}
-use Rattle.text.specs.Refusal.{refusal, given}
+use Rattle.refusal.specs.Refusal.{refusal, given}
 use Rattle.text.specs.Scan.{skip, byteAt}
-use Rattle.text.specs.declared.refusal.Fault.the-variants.{NameMissing}
-use Rattle.text.specs.declared.refusal.Refusal.{Refusal}
-use Rattle.text.specs.declared.refusal.Span.{Span}
+use Rattle.refusal.specs.declared.fault.Fault.the-variants.{NameMissing}
+use Rattle.refusal.specs.declared.fault.Refusal.{Refusal}
+use Rattle.refusal.specs.declared.place.Span.{Span}
 use Rattle.line_name.specs.Name.{nameFrom, nameAt}
 
 -- a name that starts has a byte

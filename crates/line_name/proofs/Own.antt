@@ -1,10 +1,10 @@
 -- The contract in document 01's terms leaves one answer. Assumes nothing.
 use mathlib.Core.Path.{_≡_, ap}
 use Prim.Native.Nat.{ℕ}
-use Rattle.text.proofs.Numbers.{given-own}
-use Rattle.text.specs.Cursor.{cursor}
-use Rattle.text.specs.Refusal.{given}
-use Rattle.text.specs.declared.refusal.Span.{Span}
+use Rattle.refusal.proofs.Numbers.{given-own}
+use Rattle.cursor.specs.Cursor.{cursor}
+use Rattle.refusal.specs.Refusal.{given}
+use Rattle.refusal.specs.declared.place.Span.{Span}
 use Rattle.line_name.specs.Name.{told}
 use Rattle.line_name.specs.declared.Named.{Named}
 use Rattle.line_name.specs.declared.Named.the-variants.{Read, Refused}

@@ -8,11 +8,11 @@ use borrow.Author.Tests.{ltb-true}
 use lib.Dec.{ltb}
 use lib.ListN.{length}
 use Rattle.text.proofs.Reach.{skip-within}
-use Rattle.text.specs.Answer.{Answer, good, refused}
+use Rattle.refusal.specs.Answer.{Answer, good, refused}
 use Rattle.text.specs.Class.{isSpace, isAlnum, isSeparator, isNameByte}
-use Rattle.text.specs.Refusal.{span}
+use Rattle.refusal.specs.Refusal.{span}
 use Rattle.text.specs.Scan.{skip, byteAt}
-use Rattle.text.specs.declared.refusal.Span.{Span}
+use Rattle.refusal.specs.declared.place.Span.{Span}
 use Rattle.line_name.proofs.Laws.{name-some}
 use Rattle.line_name.specs.Name.{nameTo, nameFrom, nameAt}
 

@@ -1,1 +1,2 @@
+-- the name at a line's start
 pub mod Name

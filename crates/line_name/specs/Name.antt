@@ -4,11 +4,11 @@ use mathlib.Core.Bool.{cond}
 use mathlib.Core.List.{List}
 use lib.Dec.{ltb}
 use lib.ListN.{length}
-use Rattle.text.specs.Answer.{Answer, good, refused}
+use Rattle.refusal.specs.Answer.{Answer, good, refused}
 use Rattle.text.specs.Class.{isSpace, isAlnum, isSeparator, isNameByte}
-use Rattle.text.specs.Refusal.{span, given}
+use Rattle.refusal.specs.Refusal.{span, given}
 use Rattle.text.specs.Scan.{skip, byteAt}
-use Rattle.text.specs.declared.refusal.Span.{Span}
+use Rattle.refusal.specs.declared.place.Span.{Span}
 use Rattle.line_name.specs.declared.Named.{Named}
 use Rattle.line_name.specs.declared.Named.the-variants.{Read, Refused}
 

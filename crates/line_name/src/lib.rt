@@ -3,10 +3,10 @@ ghost use mathlib.Core.Path.{_≡_};
 ghost use Prim.Native.Nat.{_<_};
 ghost use lib.ListN.{length};
 ghost use Rattle.line_name.specs.Name.{nameTo, nameFrom, nameAt, told};
-use text::Cursor;
-use text::Fault;
-use text::Refusal;
-use text::Span;
+use cursor::Cursor;
+use refusal::Fault;
+use refusal::Refusal;
+use refusal::Span;
 
 pub enum Named {
     // The name, and the place behind it.

@@ -1,8 +1,4 @@
-mod Copies
-mod Doors
-pub mod Fuel
-pub mod Meaning
-pub mod Numbered
-pub mod Own
+-- what the check that comes first makes of the entry's answer
+pub mod Doors
+-- for the quick door
 mod Quickly
-mod Typed

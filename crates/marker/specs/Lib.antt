@@ -1,5 +1,2 @@
+-- what the marker entry answers, and what it has read then
 pub mod Answer
-pub mod Fuel
-pub mod Numbers
-pub mod Store
-pub mod Value

@@ -1,21 +1,27 @@
-// The quick door: what was read, as numbers in arrays that the caller lends.
-ghost use mathlib.Core.List.{_++_};
+// What was read, as numbers in arrays that the caller lends.
 ghost use mathlib.Core.Path.{_≡_};
-ghost use Prim.Native.Nat.{_≤_};
-ghost use lib.ListN.{length, take, drop};
-ghost use Rattle.marker.specs.Answer.{markerAnswer, outcomeOf, listedOf, told, countsOf};
-ghost use Rattle.marker.specs.declared.door.Outcome.the-variants.{Refused};
-ghost use Rattle.marker_steps.specs.Arrays.{comparisonsAs, warningsAs, onto};
-ghost use Rattle.marker_steps.specs.Marking.{nothing};
-ghost use Rattle.text.specs.Check.{checked};
-use crate::door::Outcome;
+ghost use Rattle.arrays.specs.Front.{onto};
+ghost use Rattle.marker.specs.Answer.{markerAnswer, markingFrom, entryAnswer, entryMarking, countsOf, refusedBy};
+ghost use Rattle.marker_steps.specs.Marking.{comparisonsAs, warningsAs};
+ghost use Rattle.refusal.specs.Answer.{outcomeOf};
+ghost use Rattle.refusal.specs.Refusal.{told};
+use arrays::copy_bytes;
+use arrays::copy_numbers;
+use cursor::Cursor;
+use cursor::check_line;
 use marker_cycle::read_from;
-use marker_steps::Counts;
 use marker_steps::Part;
-use text::Checked;
-use text::Cursor;
-use text::Refusal;
-use text::check_line;
+use marker_store::COMPARISON_NUMBERS;
+use marker_store::COMPARISONS_ROOM;
+use marker_store::Comparisons;
+use marker_store::Counts;
+use marker_store::WARNING_NUMBERS;
+use marker_store::WARNINGS_ROOM;
+use marker_store::Warnings;
+use marker_store::Words;
+use program_check::MAX_WORDS;
+use refusal::Outcome;
+use refusal::Refusal;
 
 // On a refusal the counts are 0.
 pub struct Quick {
@@ -24,7 +30,7 @@ pub struct Quick {
 }
 
 fn refused_quick(why: Refusal) -> Quick
-    ensures { λ r. ⌜ r ≡ record { outcome = Refused why; counts = countsOf nothing } ⌝ }
+    ensures { λ r. ⌜ r ≡ refusedBy why ⌝ }
 {
     let counts = Counts {
         kept: 0,
@@ -37,56 +43,37 @@ fn refused_quick(why: Refusal) -> Quick
     }
 }
 
-// The first n numbers of one array go to the front of another, whose rest stays as it was.
-fn copy_numbers(from: &[usize], to: &mut [usize], n: usize)
-    requires { ⌜ (n ≤ length (now from)) × (n ≤ length (now to)) ⌝ }
-    ensures { λ r. ⌜ now (to .exit) ≡ take n (now (from .entry)) ++ drop n (now (to .entry)) ⌝ }
-{
-    let mut i = 0;
-    while i < n {
-        to[i] = from[i];
-        i += 1;
-    }
-}
-
-fn copy_words(from: &[u8], to: &mut [u8], n: usize)
-    requires { ⌜ (n ≤ length (now from)) × (n ≤ length (now to)) ⌝ }
-    ensures { λ r. ⌜ now (to .exit) ≡ take n (now (from .entry)) ++ drop n (now (to .entry)) ⌝ }
-{
-    let mut i = 0;
-    while i < n {
-        to[i] = from[i];
-        i += 1;
-    }
-}
-
+// The marker that starts at a place of a line and goes to its end. Refusals 1 and 2 are not looked for: the line's reader has done that.
 pub fn read_quick_from(
     line: &[u8],
     from: Cursor,
-    comps: &mut [usize; 320],
-    warns: &mut [usize; 192],
-    words: &mut [u8; 127],
+    comps: &mut Comparisons,
+    warns: &mut Warnings,
+    words: &mut Words,
 ) -> Quick
     ensures outcome { λ r. ⌜ told (r .outcome) ≡ outcomeOf (markerAnswer (now (line .entry)) (from .at)) ⌝ }
-    ensures counts { λ r. ⌜ r .counts ≡ countsOf (listedOf (markerAnswer (now (line .entry)) (from .at))) ⌝ }
-    ensures comparisons { λ r. ⌜ now (comps .exit) ≡ onto (comparisonsAs (listedOf (markerAnswer (now (line .entry)) (from .at)))) (now (comps .entry)) ⌝ }
-    ensures warnings { λ r. ⌜ now (warns .exit) ≡ onto (warningsAs (listedOf (markerAnswer (now (line .entry)) (from .at)))) (now (warns .entry)) ⌝ }
-    ensures words { λ r. ⌜ now (words .exit) ≡ onto (listedOf (markerAnswer (now (line .entry)) (from .at)) .words) (now (words .entry)) ⌝ }
+    ensures counts { λ r. ⌜ r .counts ≡ countsOf (markingFrom (now (line .entry)) (from .at)) ⌝ }
+    ensures comparisons { λ r. ⌜ now (comps .exit)
+        ≡ onto (comparisonsAs (markingFrom (now (line .entry)) (from .at))) (now (comps .entry)) ⌝ }
+    ensures warnings { λ r. ⌜ now (warns .exit)
+        ≡ onto (warningsAs (markingFrom (now (line .entry)) (from .at))) (now (warns .entry)) ⌝ }
+    ensures words { λ r. ⌜ now (words .exit)
+        ≡ onto (markingFrom (now (line .entry)) (from .at) .words) (now (words .entry)) ⌝ }
 {
-    let mut found = [0usize; 320];
-    let mut given = [0usize; 192];
-    let mut program = [0u8; 127];
+    let mut found = [0usize; COMPARISONS_ROOM];
+    let mut given = [0usize; WARNINGS_ROOM];
+    let mut program = [0u8; MAX_WORDS];
     let done = read_from(line, from, &mut found, &mut given, &mut program);
     let part = done.part;
     match part {
         Part::Refused(why) => refused_quick(why),
         Part::Read { next: _, some: _ } => {
             let counts = done.counts;
-            copy_numbers(&found, comps, 5 * counts.kept);
-            copy_numbers(&given, warns, 3 * counts.warned);
-            copy_words(&program, words, counts.words);
+            copy_numbers(&found, COMPARISON_NUMBERS * counts.kept, comps);
+            copy_numbers(&given, WARNING_NUMBERS * counts.warned, warns);
+            copy_bytes(&program, counts.words, words);
             Quick {
-                outcome: Outcome::Read,
+                outcome: Outcome::Good,
                 counts,
             }
         }
@@ -96,18 +83,20 @@ pub fn read_quick_from(
 // The marker entry.
 pub fn read_quick(
     line: &[u8],
-    comps: &mut [usize; 320],
-    warns: &mut [usize; 192],
-    words: &mut [u8; 127],
+    comps: &mut Comparisons,
+    warns: &mut Warnings,
+    words: &mut Words,
 ) -> Quick
-    ensures outcome { λ r. ⌜ told (r .outcome) ≡ outcomeOf (checked (now (line .entry)) (markerAnswer (now (line .entry)) 0)) ⌝ }
-    ensures counts { λ r. ⌜ r .counts ≡ countsOf (listedOf (checked (now (line .entry)) (markerAnswer (now (line .entry)) 0))) ⌝ }
-    ensures comparisons { λ r. ⌜ now (comps .exit) ≡ onto (comparisonsAs (listedOf (checked (now (line .entry)) (markerAnswer (now (line .entry)) 0)))) (now (comps .entry)) ⌝ }
-    ensures warnings { λ r. ⌜ now (warns .exit) ≡ onto (warningsAs (listedOf (checked (now (line .entry)) (markerAnswer (now (line .entry)) 0)))) (now (warns .entry)) ⌝ }
-    ensures words { λ r. ⌜ now (words .exit) ≡ onto (listedOf (checked (now (line .entry)) (markerAnswer (now (line .entry)) 0)) .words) (now (words .entry)) ⌝ }
+    ensures outcome { λ r. ⌜ told (r .outcome) ≡ outcomeOf (entryAnswer (now (line .entry))) ⌝ }
+    ensures counts { λ r. ⌜ r .counts ≡ countsOf (entryMarking (now (line .entry))) ⌝ }
+    ensures comparisons { λ r. ⌜ now (comps .exit)
+        ≡ onto (comparisonsAs (entryMarking (now (line .entry)))) (now (comps .entry)) ⌝ }
+    ensures warnings { λ r. ⌜ now (warns .exit)
+        ≡ onto (warningsAs (entryMarking (now (line .entry)))) (now (warns .entry)) ⌝ }
+    ensures words { λ r. ⌜ now (words .exit) ≡ onto (entryMarking (now (line .entry)) .words) (now (words .entry)) ⌝ }
 {
     match check_line(line) {
-        Checked::Good => read_quick_from(line, Cursor::start(), comps, warns, words),
-        Checked::Refused(why) => refused_quick(why),
+        Outcome::Good => read_quick_from(line, Cursor::start(), comps, warns, words),
+        Outcome::Refused(why) => refused_quick(why),
     }
 }

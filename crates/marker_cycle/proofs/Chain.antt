@@ -1,22 +1,24 @@
--- A chain of items joined by one word: what holds at each turn of its loop, for any item. Assumes nothing.
+-- For the two chains and for every theorem on them: what holds of a chain of items joined by one word at each turn of its loop, for any item. Assumes nothing.
 use mathlib.Core.Path.{_≡_, refl, sym, ap, ap₂, _∙_}
 use mathlib.Core.Bool.{Bool, true, _||_}
 use Prim.Native.Nat.{ℕ, zero, suc, _+_, _-_, _<_, _≤_}
 use native.Mathlib.Omega.{arith}
 use Rattle.marker_cycle.proofs.Emit.{nk, nw, emit-kept, emit-warned, room-after, spare-after}
+use Rattle.cursor.specs.Limits.{maxComparisons}
+use Rattle.program_check.specs.Rules.{maxWords}
 use Rattle.marker_steps.specs.Grammar.{Tree, Parsed, got, fault, andThen, Ahead, on, off, more, chain}
 use Rattle.marker_steps.specs.Marking.{some}
-use Rattle.marker_steps.specs.Steps.{Raw, State, Room, Spare, stateOf, emit, joining, joined, onward, onwardAt}
+use Rattle.marker_steps.specs.inner.Steps.{Raw, State, Room, Spare, stateOf, emit, joining, joined, onward, onwardAt}
 use Rattle.marker_steps.specs.declared.part.Onward.the-variants.{On, Stop}
 use Rattle.marker_steps.specs.declared.part.Part.{Part}
 use Rattle.marker_steps.specs.declared.part.Part.the-variants.{Read, Refused}
-use Rattle.text.specs.Cursor.{cursor}
-use Rattle.text.specs.declared.cursor.Cursor.{Cursor}
-use Rattle.text.specs.declared.refusal.Refusal.{Refusal}
+use Rattle.cursor.specs.Cursor.{cursor}
+use Rattle.cursor.specs.declared.cursor.Cursor.{Cursor}
+use Rattle.refusal.specs.declared.fault.Refusal.{Refusal}
 
 -- what is read from at on ends past it and stays within the limits
 abbrev pub Sane : ℕ → ℕ → ℕ → Parsed → Type 0
-Sane at k w (got t e) = (at < e) × (k + nk t ≤ 64) × (w + nw t ≤ 64)
+Sane at k w (got t e) = (at < e) × (k + nk t ≤ maxComparisons) × (w + nw t ≤ maxComparisons)
 Sane at k w (fault why) = Unit {0}
 
 -- a joint, and what it does
@@ -82,7 +84,7 @@ module _ (n : ℕ) (goes : ℕ → Ahead) (mk : Tree → Tree → Tree) (item : 
 
 module _ (n : ℕ) (goes : ℕ → Ahead) (v : ℕ) (mk : Tree → Tree → Tree) (item : ℕ → ℕ → ℕ → Parsed)
     (goes-sane : (e d : ℕ) → goes e ≡ on d → (e < d) × (d ≤ n))
-    (item-sane : (at k w : ℕ) → k ≤ 64 → w ≤ 64 → Sane at k w (item at k w)) (joins : Joins mk v) where
+    (item-sane : (at k w : ℕ) → k ≤ maxComparisons → w ≤ maxComparisons → Sane at k w (item at k w)) (joins : Joins mk v) where
   -- the whole chain, after r from at on, goes on from what was read up to here
   pub record Going (r : Raw) (at : ℕ) (left : State) : Type 0 where
     pub p : Parsed
@@ -178,7 +180,7 @@ module _ (n : ℕ) (goes : ℕ → Ahead) (v : ℕ) (mk : Tree → Tree → Tree
   turn-spare r at left right {next} room tn h eb c ec =
       go (item (next .at) (r .kept + nk (tn .t)) (r .warned + nw (tn .t))) (turn-right r at left right tn h) (turn-sane r at left tn)
     where
-      go : (q : Parsed) → right ≡ stateOf q (emit (tn .t) r) → Sane (next .at) (r .kept + nk (tn .t)) (r .warned + nw (tn .t)) q → right .raw .count < 127
+      go : (q : Parsed) → right ≡ stateOf q (emit (tn .t) r) → Sane (next .at) (r .kept + nk (tn .t)) (r .warned + nw (tn .t)) q → right .raw .count < maxWords
       go (got u d) e sn =
           let z : Read (cursor d) (some u) ≡ Read c true = rw e at ec in
           rw e (spare-after (tn .t) u r room (sn .1) (sym (tn .had) ∙ eb) (cc))
@@ -217,7 +219,7 @@ module _ (n : ℕ) (goes : ℕ → Ahead) (v : ℕ) (mk : Tree → Tree → Tree
       go (got u d) e sn = rw (hj, e, tn .is) (omega (arith, tn .there .0, tn .there .1, sn .0))
       go (fault why) e sn = rw (hj, e, tn .is) (omega arith)
 
-  pub chain-sane : (at k w : ℕ) → k ≤ 64 → w ≤ 64 → Sane at k w (chain n goes mk item at k w)
+  pub chain-sane : (at k w : ℕ) → k ≤ maxComparisons → w ≤ maxComparisons → Sane at k w (chain n goes mk item at k w)
   chain-sane at k w hk hw = chain-ind n goes mk item (Sane at k w) k w (λ why. tt) step at (item-sane at k w hk hw)
     where
       step : (t : Tree) (e j : ℕ) → Sane at k w (got t e) → goes e ≡ on j → (u : Tree) (d : ℕ) → item j (k + nk t) (w + nw t) ≡ got u d → Sane at k w (got (mk t u) d)

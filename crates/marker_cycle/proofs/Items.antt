@@ -1,4 +1,4 @@
--- Comparisons, groups and the two chains: each stays within the limits, and what each comes to from the parts of the code. Assumes nothing.
+-- For the cycle: comparisons, groups and the two chains, each of which stays within the limits, and what each comes to from the parts of the code. Assumes nothing.
 use Prim.Native.Char.{code}
 use Prim.Native.Nat.{ℕ, zero, suc, _+_, _-_, _<_, _≤_}
 use mathlib.Core.Bool.{Bool, true, false, cond}
@@ -9,24 +9,25 @@ use native.Mathlib.Omega.{arith}
 use borrow.Author.Tests.{ltb-false, eqb-true}
 use lib.Dec.{ltb, eqb}
 use lib.ListN.{length, drop, length-append}
-use Rattle.comparison.proofs.Further.{found-further}
-use Rattle.comparison.specs.Found.{foundAt}
-use Rattle.comparison.specs.declared.found.Found.{Found}
-use Rattle.comparison.specs.declared.found.Found.the-variants as Found
-use Rattle.comparison.specs.declared.judge.Verdict.{Verdict}
+use Rattle.marker_verdict.proofs.Further.{found-further}
+use Rattle.marker_verdict.specs.Found.{foundAt}
+use Rattle.marker_verdict.specs.declared.found.Found.{Found}
+use Rattle.marker_verdict.specs.declared.found.Found.the-variants as Found
+use Rattle.marker_verdict.specs.declared.verdict.Verdict.{Verdict}
 use Rattle.marker_cycle.proofs.Chain.{Sane, Joins, chain-sane}
+use Rattle.cursor.specs.Limits.{maxComparisons}
 use Rattle.marker_steps.specs.Grammar.{both, either, group, keptIn, warnedIn, keptOf, warnedOf, Parsed, got, fault, settled, settle, on, off, wordAhead, andWord, orWord, itemAt, itemOf, andOf, orOf, closed, groupAt}
 use Rattle.marker_steps.specs.Marking.{some}
-use Rattle.marker_steps.specs.Steps.{Raw, State, emit, stateOf, closedBy}
+use Rattle.marker_steps.specs.inner.Steps.{Raw, State, emit, stateOf, closedBy}
 use Rattle.text.proofs.Cases.{by-order, both as both-hold}
 use Rattle.text.proofs.Laws.{skip-end}
 use Rattle.text.proofs.Reach.{skip-from, skip-within}
 use Rattle.text.specs.Class.{isSpace, isWordByte}
-use Rattle.text.specs.Refusal.{span, refusal}
+use Rattle.refusal.specs.Refusal.{span, refusal}
 use Rattle.text.specs.Scan.{skip, byteAt}
 use Rattle.text.specs.Word.{begins, spells}
-use Rattle.text.specs.declared.refusal.Fault.the-variants.{ExpectedFoundEnd, ExpectedFoundOther, TooDeep}
-use Rattle.text.specs.declared.refusal.Span.{Span}
+use Rattle.refusal.specs.declared.fault.Fault.the-variants.{ExpectedFoundEnd, ExpectedFoundOther, TooDeep}
+use Rattle.refusal.specs.declared.place.Span.{Span}
 
 pub joins-both : Joins both 64
 unfolding keptOf warnedOf some emit
@@ -93,7 +94,7 @@ sane-from at p k w (got t e) h sn = (omega (arith, sn .0), sn .1, sn .2)
 sane-from at p k w (fault why) h sn = tt
 
 abbrev pub Sanes : (ℕ → ℕ → ℕ → Parsed) → Type 0
-Sanes f = (at k w : ℕ) → k ≤ 64 → w ≤ 64 → Sane at k w (f at k w)
+Sanes f = (at k w : ℕ) → k ≤ maxComparisons → w ≤ maxComparisons → Sane at k w (f at k w)
 
 module _ (s : List ℕ) (inner : ℕ → ℕ → ℕ → Parsed) where
   at-group : (h k w : ℕ) {b : Bool} → b ≡ eqb (byteAt s h) (code "(") → b ≡ true → itemAt s inner h k w ≡ inner h k w

@@ -1,4 +1,4 @@
--- The whole marker: what the code says of it is what the specification says. Assumes nothing.
+-- For `read_from` and the doors above: what the code says of the whole marker is what the specification says. Assumes nothing.
 use mathlib.Core.Path.{_≡_, refl, sym, ap, _∙_}
 use mathlib.Core.Bool.{Bool, true, false, cond, _||_}
 use mathlib.Core.List.{List, [], _∷_}
@@ -6,24 +6,27 @@ use Prim.Native.Nat.{ℕ, _+_, _-_, _<_, _≤_}
 use native.Mathlib.Omega.{arith}
 use lib.Dec.{ltb}
 use lib.ListN.{length, replicate}
-use Rattle.comparison.specs.declared.judge.Verdict.{Verdict}
-use Rattle.comparison.specs.declared.judge.Verdict.the-variants.{Kept, KeptWarned, Ignored, IgnoredTwice}
+use Rattle.marker_verdict.specs.declared.verdict.Verdict.{Verdict}
+use Rattle.marker_verdict.specs.declared.verdict.Verdict.the-variants.{Kept, KeptWarned, Ignored, IgnoredTwice}
 use Rattle.marker_cycle.proofs.Chain.{Sane}
 use Rattle.marker_cycle.proofs.Emit.{nk, one, emit-count}
 use Rattle.marker_cycle.proofs.Held.{emit-reads, push-reads, words-count}
 use Rattle.marker_cycle.proofs.Items.{by-test, or-sane, group-sane}
 use Rattle.marker_steps.proofs.Laws.{live}
-use Rattle.marker_steps.specs.Arrays.{allNumbers}
+use Rattle.marker_store.specs.Numbers.{allNumbers, noCounts}
+use Rattle.marker_store.specs.Room.{comparisonsRoom, warningsRoom}
+use Rattle.cursor.specs.Limits.{maxComparisons}
+use Rattle.program_check.specs.Rules.{maxWords}
 use Rattle.marker_steps.specs.Grammar.{Tree, compared, both, either, group, keptOf, warnedOf, Parsed, got, fault, orOf, groupAt, ending, parseFrom}
 use Rattle.marker_steps.specs.Marking.{isKept, some, push, wordsFrom, program, nothing}
-use Rattle.marker_steps.specs.Steps.{Raw, rawOf, State, viewOf, shows, emit, pushed, stopped, readTo, stateOf, wholeOf, Spare, Fits, finished}
+use Rattle.marker_steps.specs.inner.Steps.{Raw, rawOf, State, viewOf, shows, emit, pushed, stopped, readTo, stateOf, wholeOf, Spare, Fits, finished}
 use Rattle.marker_steps.specs.declared.part.Part.the-variants.{Read, Refused}
 use Rattle.marker_steps.specs.declared.part.Progress.{Progress}
 use Rattle.text.specs.Class.{isSpace}
-use Rattle.text.specs.Cursor.{cursor}
-use Rattle.text.specs.Refusal.{refusal}
+use Rattle.cursor.specs.Cursor.{cursor}
+use Rattle.refusal.specs.Refusal.{refusal}
 use Rattle.text.specs.Scan.{skip}
-use Rattle.text.specs.declared.refusal.Fault.the-variants.{MarkerGoesOn}
+use Rattle.refusal.specs.declared.fault.Fault.the-variants.{MarkerGoesOn}
 
 neither : (x y : Bool) → x || y ≡ false → (x ≡ false) × (y ≡ false)
 neither true y e = let z : _≡_ {A = ℕ} 0 1 = cc in absurd (omega arith)
@@ -59,7 +62,7 @@ pub line-spare : (s : List ℕ) (at : ℕ) (a : State) → a ≡ stateOf (lineOf
 unfolding stateOf Spare rawOf
 line-spare s at a e c ec = go (lineOf s at) e
   where
-    go : (p : Parsed) → a ≡ stateOf p (rawOf nothing) → a .raw .count < 127
+    go : (p : Parsed) → a ≡ stateOf p (rawOf nothing) → a .raw .count < maxWords
     go (got t d) q =
         let z : Read (cursor d) (some t) ≡ Read c false = rw q at ec in
         rw q (omega (arith, emit-count t (rawOf nothing), none-kept t (cc)))
@@ -102,7 +105,7 @@ unfolding parseFrom
 whole-state s at er ea eb = eb ∙ ap (finished s) (line-state s at er ea) ∙ ended s at (lineOf s at) (line-sane s at)
 
 -- arrays of zeros hold nothing
-pub view-nothing : viewOf (replicate 320 0) (replicate 192 0) (replicate 127 0) (record { kept = 0; warned = 0; words = 0 }) ≡ rawOf nothing
+pub view-nothing : viewOf (replicate comparisonsRoom 0) (replicate warningsRoom 0) (replicate maxWords 0) noCounts ≡ rawOf nothing
 unfolding rawOf allNumbers
 view-nothing = refl
 
@@ -115,11 +118,11 @@ parse-sane s at = go (lineOf s at) (line-sane s at)
     go (fault why) sn = tt
 
 -- a program has at most 127 words
-pub program-short : (t : Tree) → nk t ≤ 64 → length (program t) ≤ 127
+pub program-short : (t : Tree) → nk t ≤ maxComparisons → length (program t) ≤ maxWords
 unfolding program
 program-short t h = go (some t) refl
   where
-    go : (b : Bool) → some t ≡ b → length (cond b (wordsFrom 0 t) (66 ∷ [])) ≤ 127
+    go : (b : Bool) → some t ≡ b → length (cond b (wordsFrom 0 t) (66 ∷ [])) ≤ maxWords
     go true e = omega (arith, words-count 0 t, ap one e)
     go false e = omega arith
 
@@ -127,7 +130,7 @@ pub fits-of : (s : List ℕ) (at : ℕ) (a : Progress) (cs ws ps : List ℕ) →
 unfolding wholeOf Fits rawOf
 fits-of s at a cs ws ps h c b e = go (parseFrom s at) (parse-sane s at) h
   where
-    go : (p : Parsed) → Sane at 0 0 p → shows a cs ws ps ≡ wholeOf p → (a .counts .kept ≤ 64) × (a .counts .warned ≤ 64)
+    go : (p : Parsed) → Sane at 0 0 p → shows a cs ws ps ≡ wholeOf p → (a .counts .kept ≤ maxComparisons) × (a .counts .warned ≤ maxComparisons)
     go (got t d) sn g =
         let r = sym (live (viewOf cs ws ps (a .counts)) e) ∙ ap (λ (z : State). z .raw) g in
         (omega (arith, ap (λ (z : Raw). z .kept) r, sn .1), omega (arith, ap (λ (z : Raw). z .warned) r, sn .2))

@@ -1,10 +1,10 @@
 // Or-chain, and-chain and comparison-or-group call each other: at each call the remaining depth falls, or else the rank of the function.
 ghost use mathlib.Core.Path.{_≡_};
+ghost use Rattle.marker_store.specs.Numbers.{noCounts};
 ghost use Rattle.marker_steps.specs.Grammar.{itemOf, andOf, orOf, groupAt, parseFrom};
 ghost use Rattle.marker_steps.specs.Marking.{nothing};
-ghost use Rattle.marker_steps.specs.Steps.{rawOf, viewOf, shows, Inside, stateOf, wholeOf};
-use comparison::find;
-use marker_steps::Counts;
+ghost use Rattle.marker_steps.specs.inner.Steps.{rawOf, viewOf, shows, Inside, readAfter, wholeOf};
+use cursor::Cursor;
 use marker_steps::Onward;
 use marker_steps::Progress;
 use marker_steps::ahead_and;
@@ -14,22 +14,28 @@ use marker_steps::finish;
 use marker_steps::join;
 use marker_steps::refused;
 use marker_steps::take_in;
-use text::Cursor;
-use text::Fault;
-use text::Refusal;
+use marker_store::Comparisons;
+use marker_store::Counts;
+use marker_store::Warnings;
+use marker_store::Words;
+use marker_verdict::find;
+use refusal::Fault;
+use refusal::Refusal;
 use text::has;
 
 fn or_chain(
     line: &[u8],
     from: Cursor,
     depth: usize,
-    comps: &mut [usize; 320],
-    warns: &mut [usize; 192],
-    words: &mut [u8; 127],
+    comps: &mut Comparisons,
+    warns: &mut Warnings,
+    words: &mut Words,
     counts: Counts,
 ) -> Progress
     requires { ⌜ Inside counts ⌝ }
-    ensures { λ r. ⌜ shows r (now (comps .exit)) (now (warns .exit)) (now (words .exit)) ≡ stateOf (orOf (now (line .entry)) (groupAt (now (line .entry)) depth) (from .at) (counts .kept) (counts .warned)) (viewOf (now (comps .entry)) (now (warns .entry)) (now (words .entry)) counts) ⌝ }
+    ensures { λ r. ⌜ shows r (now (comps .exit)) (now (warns .exit)) (now (words .exit))
+        ≡ readAfter (orOf (now (line .entry)) (groupAt (now (line .entry)) depth) (from .at))
+        (viewOf (now (comps .entry)) (now (warns .entry)) (now (words .entry)) counts) ⌝ }
 {
     let mut left = and_chain(line, from, depth, comps, warns, words, counts);
     loop {
@@ -49,13 +55,15 @@ fn and_chain(
     line: &[u8],
     from: Cursor,
     depth: usize,
-    comps: &mut [usize; 320],
-    warns: &mut [usize; 192],
-    words: &mut [u8; 127],
+    comps: &mut Comparisons,
+    warns: &mut Warnings,
+    words: &mut Words,
     counts: Counts,
 ) -> Progress
     requires { ⌜ Inside counts ⌝ }
-    ensures { λ r. ⌜ shows r (now (comps .exit)) (now (warns .exit)) (now (words .exit)) ≡ stateOf (andOf (now (line .entry)) (groupAt (now (line .entry)) depth) (from .at) (counts .kept) (counts .warned)) (viewOf (now (comps .entry)) (now (warns .entry)) (now (words .entry)) counts) ⌝ }
+    ensures { λ r. ⌜ shows r (now (comps .exit)) (now (warns .exit)) (now (words .exit))
+        ≡ readAfter (andOf (now (line .entry)) (groupAt (now (line .entry)) depth) (from .at))
+        (viewOf (now (comps .entry)) (now (warns .entry)) (now (words .entry)) counts) ⌝ }
 {
     let mut left = comparison_or_group(line, from, depth, comps, warns, words, counts);
     loop {
@@ -75,13 +83,15 @@ fn comparison_or_group(
     line: &[u8],
     from: Cursor,
     depth: usize,
-    comps: &mut [usize; 320],
-    warns: &mut [usize; 192],
-    words: &mut [u8; 127],
+    comps: &mut Comparisons,
+    warns: &mut Warnings,
+    words: &mut Words,
     counts: Counts,
 ) -> Progress
     requires { ⌜ Inside counts ⌝ }
-    ensures { λ r. ⌜ shows r (now (comps .exit)) (now (warns .exit)) (now (words .exit)) ≡ stateOf (itemOf (now (line .entry)) (groupAt (now (line .entry)) depth) (from .at) (counts .kept) (counts .warned)) (viewOf (now (comps .entry)) (now (warns .entry)) (now (words .entry)) counts) ⌝ }
+    ensures { λ r. ⌜ shows r (now (comps .exit)) (now (warns .exit)) (now (words .exit))
+        ≡ readAfter (itemOf (now (line .entry)) (groupAt (now (line .entry)) depth) (from .at))
+        (viewOf (now (comps .entry)) (now (warns .entry)) (now (words .entry)) counts) ⌝ }
 {
     let here = from.skip_whitespace(line);
     let at = here.at;
@@ -101,12 +111,13 @@ fn comparison_or_group(
 pub fn read_from(
     line: &[u8],
     from: Cursor,
-    comps: &mut [usize; 320],
-    warns: &mut [usize; 192],
-    words: &mut [u8; 127],
+    comps: &mut Comparisons,
+    warns: &mut Warnings,
+    words: &mut Words,
 ) -> Progress
-    requires { ⌜ viewOf (now comps) (now warns) (now words) (record { kept = 0; warned = 0; words = 0 }) ≡ rawOf nothing ⌝ }
-    ensures { λ r. ⌜ shows r (now (comps .exit)) (now (warns .exit)) (now (words .exit)) ≡ wholeOf (parseFrom (now (line .entry)) (from .at)) ⌝ }
+    requires { ⌜ viewOf (now comps) (now warns) (now words) noCounts ≡ rawOf nothing ⌝ }
+    ensures { λ r. ⌜ shows r (now (comps .exit)) (now (warns .exit)) (now (words .exit))
+        ≡ wholeOf (parseFrom (now (line .entry)) (from .at)) ⌝ }
 {
     let none = Counts {
         kept: 0,

@@ -1,66 +1,42 @@
--- Laws of the steps: what each comes to, from the facts that a branch of the code has. Assumes nothing.
+-- For the functions of `step`: what each comes to, from the facts that a branch of the code has. Assumes nothing.
 use Prim.Native.Char.{code}
-use Prim.Native.Nat.{ℕ, suc, _+_, _-_, _*_, _<_, _≤_}
+use Prim.Native.Nat.{ℕ, _+_, _-_, _<_, _≤_}
 use mathlib.Core.Bool.{Bool, true, false}
 use mathlib.Core.List.{List}
 use mathlib.Core.Path.{_≡_, refl, sym, ap, _∙_}
 use native.Mathlib.Omega.{arith}
+use borrow.Author.Needs.{needs}
 use borrow.Author.Tests.{le-ltb, lt-ltb}
 use lib.Dec.{eqb}
-use lib.ListN.{length, set}
-use Rattle.comparison.specs.Judge.{operatorCode}
-use Rattle.comparison.specs.declared.judge.Verdict.{Verdict}
-use Rattle.comparison.specs.declared.judge.Verdict.the-variants.{Kept, KeptWarned, Ignored, IgnoredTwice}
-use Rattle.comparison.specs.declared.kind.Comparison.{Comparison}
-use Rattle.marker_code.specs.Code.{sortCode, keyCode}
-use Rattle.marker_steps.specs.Grammar.{keptIn, warnedIn, warningOf, settled, Ahead, on, wordAhead, Parsed}
+use lib.ListN.{length}
+use Rattle.marker_verdict.specs.declared.verdict.Verdict.{Verdict}
+use Rattle.marker_verdict.specs.declared.verdict.Verdict.the-variants.{Kept, KeptWarned, Ignored, IgnoredTwice}
+use Rattle.marker_steps.specs.Grammar.{keptIn, warnedIn, settled, Ahead, on, wordAhead, Parsed}
 use Rattle.marker_steps.specs.Marking.{isKept, some, nothing}
-use Rattle.marker_steps.specs.Steps.{Raw, State, viewOf, rawIn, shows, Room, Inside, putComparison, putWarning, pushed, warning, taking, emit, stopped, readTo, stateOf, onward, joined, Spare, Slack, closedBy, finished}
-use Rattle.marker_steps.specs.declared.part.Counts.{Counts}
+use Rattle.marker_steps.specs.inner.Steps.{Raw, State, viewOf, halted, rawIn, shows, Room, Inside, pushed, warning, taking, emit, stopped, readTo, stateOf, onward, joined, Spare, Slack, closedBy, finished}
 use Rattle.marker_steps.specs.declared.part.Onward.the-variants.{On, Stop}
 use Rattle.marker_steps.specs.declared.part.Part.{Part}
 use Rattle.marker_steps.specs.declared.part.Part.the-variants.{Read, Refused}
 use Rattle.marker_steps.specs.declared.part.Progress.{Progress}
-use Rattle.marker_steps.specs.declared.warning.Warning.{Warning}
+use Rattle.cursor.specs.Limits.{maxComparisons}
+use Rattle.marker_store.specs.declared.marks.Counts.{Counts}
+use Rattle.marker_store.specs.declared.marks.Warning.{Warning}
 use Rattle.text.specs.Class.{isSpace, isWordByte}
-use Rattle.text.specs.Cursor.{cursor, spanTo}
-use Rattle.text.specs.Refusal.{span, refusal}
+use Rattle.cursor.specs.Cursor.{cursor, spanTo}
+use Rattle.refusal.specs.Refusal.{span, refusal}
 use Rattle.text.specs.Scan.{skip, byteAt}
 use Rattle.text.specs.Word.{spells}
-use Rattle.text.specs.declared.cursor.Cursor.{Cursor}
-use Rattle.text.specs.declared.refusal.Fault.the-variants.{ExpectedFoundEnd, ExpectedFoundOther, MarkerGoesOn, ComparisonsMany, WarningsMany}
-use Rattle.text.specs.declared.refusal.Refusal.{Refusal}
-use Rattle.text.specs.declared.refusal.Span.{Span}
-
--- stores one behind the other
-plus-two : (n : ℕ) → n + 2 ≡ suc (suc n)
-plus-two n = omega arith
-
-plus-three : (n : ℕ) → n + 3 ≡ suc (suc (suc n))
-plus-three n = omega arith
-
-plus-four : (n : ℕ) → n + 4 ≡ suc (suc (suc (suc n)))
-plus-four n = omega arith
-
-plus-one : (n : ℕ) → n + 1 ≡ suc n
-plus-one n = omega arith
-
-pub comparison-stored : (l : List ℕ) (n : ℕ) (x : Comparison) {a b c : ℕ} → a ≡ sortCode (x .sort) → b ≡ keyCode (x .key) → c ≡ operatorCode (x .operator) →
-    set (set (set (set (set l (5 * n) a) (5 * n + 1) b) (5 * n + 2) c) (5 * n + 3) (x .literal .start .0)) (5 * n + 4) (x .literal .len) ≡ putComparison l n x
-unfolding putComparison
-comparison-stored l n x ea eb ec = rw (ea, eb, ec, plus-one (5 * n), plus-two (5 * n), plus-three (5 * n), plus-four (5 * n))
-
-pub warning-stored : (l : List ℕ) (n k : ℕ) (x : Span) →
-    set (set (set l (3 * n) k) (3 * n + 1) (x .start .0)) (3 * n + 2) (x .len) ≡ putWarning l n (warningOf k x)
-unfolding putWarning
-warning-stored l n k x = rw (plus-one (3 * n), plus-two (3 * n))
+use Rattle.cursor.specs.declared.cursor.Cursor.{Cursor}
+use Rattle.refusal.specs.declared.fault.Fault.the-variants.{ExpectedFoundEnd, ExpectedFoundOther, MarkerGoesOn, ComparisonsMany, WarningsMany}
+use Rattle.refusal.specs.declared.fault.Refusal.{Refusal}
+use Rattle.refusal.specs.declared.place.Span.{Span}
 
 -- what was read stands for what the arrays hold, a refusal for nothing
 pub live : {o : Part} {c : Cursor} {b : Bool} (r : Raw) → o ≡ Read c b → rawIn o r ≡ r
 live r e = rw e
 
-pub shows-refused : (a : Progress) (cs ws ps : List ℕ) {why : Refusal} → a .part ≡ Refused why → shows a cs ws ps ≡ stopped why
-shows-refused a cs ws ps e = rw e
+pub shows-refused : (a : Progress) (cs ws ps : List ℕ) {why : Refusal} → a ≡ halted why → shows a cs ws ps ≡ stopped why
+shows-refused a cs ws ps e = ap (λ (t : Progress). shows t cs ws ps) e
 
 pub shows-read : (a : Progress) (cs ws ps : List ℕ) {c : Cursor} {b : Bool} {n : Counts} → a ≡ record { part = Read c b; counts = n } → shows a cs ws ps ≡ readTo c b (viewOf cs ws ps n)
 shows-read a cs ws ps e = ap (λ (t : Progress). shows t cs ws ps) e
@@ -110,6 +86,8 @@ module _ (o : Part) (word s : List ℕ) {c : Cursor} {b : Bool} (read : o ≡ Re
   pub onward-off : t ≡ false → Stop ≡ onward o (wordAhead word s)
   unfolding wordAhead
   onward-off e = rw (read, ← skipped, ← ran, ← tested, e)
+
+pub ruleset onwards = (onward-on, onward-off, needs)
 
 -- a group that is refused inside is refused so
 pub closed-refused : (s : List ℕ) (o : ℕ) (a : State) {why : Refusal} → a .part ≡ Refused why → a ≡ closedBy s o a
@@ -191,15 +169,15 @@ warned-few (Ignored kind) x = omega arith
 warned-few (IgnoredTwice kind) x = omega arith
 
 module _ (v : Verdict) (x : Span) (next : Cursor) (k w : ℕ) (r : Raw) where
-  pub settled-warnings : 64 < w + length (warnedIn v x) → stopped (record { fault = WarningsMany; span = x }) ≡ stateOf (settled v x (next .at) k w) r
+  pub settled-warnings : maxComparisons < w + length (warnedIn v x) → stopped (record { fault = WarningsMany; span = x }) ≡ stateOf (settled v x (next .at) k w) r
   unfolding stateOf settled
-  settled-warnings h = rw (lt-ltb 64 (w + length (warnedIn v x)) h)
+  settled-warnings h = rw (lt-ltb maxComparisons (w + length (warnedIn v x)) h)
 
-  pub settled-comparisons : w + length (warnedIn v x) ≤ 64 → 64 < k + length (keptIn v) → stopped (record { fault = ComparisonsMany; span = x }) ≡ stateOf (settled v x (next .at) k w) r
+  pub settled-comparisons : w + length (warnedIn v x) ≤ maxComparisons → maxComparisons < k + length (keptIn v) → stopped (record { fault = ComparisonsMany; span = x }) ≡ stateOf (settled v x (next .at) k w) r
   unfolding stateOf settled
-  settled-comparisons h g = rw (le-ltb 64 (w + length (warnedIn v x)) h, lt-ltb 64 (k + length (keptIn v)) g)
+  settled-comparisons h g = rw (le-ltb maxComparisons (w + length (warnedIn v x)) h, lt-ltb maxComparisons (k + length (keptIn v)) g)
 
-  pub settled-read : w + length (warnedIn v x) ≤ 64 → k + length (keptIn v) ≤ 64 → {n : ℕ} → n ≡ length (keptIn v) → {q : Raw} → q ≡ taking v x r →
+  pub settled-read : w + length (warnedIn v x) ≤ maxComparisons → k + length (keptIn v) ≤ maxComparisons → {n : ℕ} → n ≡ length (keptIn v) → {q : Raw} → q ≡ taking v x r →
       readTo next (eqb n 1) q ≡ stateOf (settled v x (next .at) k w) r
   unfolding stateOf settled emit some
-  settled-read h g en eq = rw (le-ltb 64 (w + length (warnedIn v x)) h, le-ltb 64 (k + length (keptIn v)) g, en, kept-one v, eq)
+  settled-read h g en eq = rw (le-ltb maxComparisons (w + length (warnedIn v x)) h, le-ltb maxComparisons (k + length (keptIn v)) g, en, kept-one v, eq)

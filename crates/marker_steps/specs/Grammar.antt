@@ -5,21 +5,22 @@ use mathlib.Core.Bool.{true, false, cond}
 use mathlib.Core.List.{List, [], _∷_, _++_}
 use lib.Dec.{ltb, eqb}
 use lib.ListN.{length}
-use Rattle.comparison.specs.Found.{foundAt}
-use Rattle.comparison.specs.declared.found.Found.{Found}
-use Rattle.comparison.specs.declared.found.Found.the-variants as Found
-use Rattle.comparison.specs.declared.judge.Verdict.{Verdict}
-use Rattle.comparison.specs.declared.judge.Verdict.the-variants.{Kept, KeptWarned, Ignored, IgnoredTwice}
-use Rattle.comparison.specs.declared.kind.Comparison.{Comparison}
-use Rattle.marker_steps.specs.declared.warning.Warning.{Warning}
+use Rattle.marker_verdict.specs.Found.{foundAt}
+use Rattle.marker_verdict.specs.declared.found.Found.{Found}
+use Rattle.marker_verdict.specs.declared.found.Found.the-variants as Found
+use Rattle.marker_verdict.specs.declared.verdict.Verdict.{Verdict}
+use Rattle.marker_verdict.specs.declared.verdict.Verdict.the-variants.{Kept, KeptWarned, Ignored, IgnoredTwice}
+use Rattle.marker_kind.specs.declared.kind.Comparison.{Comparison}
+use Rattle.marker_store.specs.declared.marks.Warning.{Warning}
+use Rattle.cursor.specs.Limits.{maxDepth, maxComparisons}
 use Rattle.text.specs.Class.{isSpace, isWordByte}
-use Rattle.text.specs.Refusal.{span, refusal}
+use Rattle.refusal.specs.Refusal.{span, refusal}
 use Rattle.text.specs.Scan.{skip, byteAt}
 use Rattle.text.specs.Word.{bytes, spells}
-use Rattle.text.specs.declared.refusal.Fault.{Fault}
-use Rattle.text.specs.declared.refusal.Fault.the-variants.{ExpectedFoundEnd, ExpectedFoundOther, MarkerGoesOn, TooDeep, ComparisonsMany, WarningsMany}
-use Rattle.text.specs.declared.refusal.Refusal.{Refusal}
-use Rattle.text.specs.declared.refusal.Span.{Span}
+use Rattle.refusal.specs.declared.fault.Fault.{Fault}
+use Rattle.refusal.specs.declared.fault.Fault.the-variants.{ExpectedFoundEnd, ExpectedFoundOther, MarkerGoesOn, TooDeep, ComparisonsMany, WarningsMany}
+use Rattle.refusal.specs.declared.fault.Refusal.{Refusal}
+use Rattle.refusal.specs.declared.place.Span.{Span}
 
 -- every comparison as read, kept or ignored, with its span; two sides joined by `and` or `or`; a group in parentheses
 pub data Tree : Type 0 where
@@ -74,8 +75,8 @@ over f x = fault (record { fault = f; span = x })
 -- "26: 65th kept comparison: the comparison", "27: 65th warning: its comparison", "27 before 26": a comparison after k kept ones and w warnings
 unfoldable pub settled : Verdict → Span → ℕ → ℕ → ℕ → Parsed
 settled v x next k w =
-    cond (ltb 64 (w + length (warnedIn v x))) (over WarningsMany x)
-    (cond (ltb 64 (k + length (keptIn v))) (over ComparisonsMany x)
+    cond (ltb maxComparisons (w + length (warnedIn v x))) (over WarningsMany x)
+    (cond (ltb maxComparisons (k + length (keptIn v))) (over ComparisonsMany x)
     (got (compared v x) next))
 
 unfoldable pub settle : Found → ℕ → ℕ → Parsed
@@ -101,7 +102,7 @@ abbrev pub orWord : List ℕ
 orWord = bytes "or"
 
 -- "Every chain groups to the left.": to a tree t read up to e, further items are joined where `goes` goes on. f bounds how many there are: `andOf`
--- and `orOf` take the length of the line, and `Fuel` of `marker` proves that no chain has more.
+-- and `orOf` take the length of the line, and `Fuel` of `marker_laws` proves that no chain has more.
 module _ (goes : ℕ → Ahead) (mk : Tree → Tree → Tree) (item : ℕ → ℕ → ℕ → Parsed) (k w : ℕ) where
   unfoldable pub more : ℕ → Tree → ℕ → Parsed
   more zero t e = got t e
@@ -151,4 +152,4 @@ ending s p = andThen p (λ t e. onlyEnd s t e (skip isSpace s e))
 
 -- a marker from a place to the end of the line
 unfoldable pub parseFrom : List ℕ → ℕ → Parsed
-parseFrom s at = ending s (orOf s (groupAt s 16) at 0 0)
+parseFrom s at = ending s (orOf s (groupAt s maxDepth) at 0 0)

@@ -3,11 +3,12 @@ use Prim.Native.Nat.{ℕ, _+_}
 use mathlib.Core.Bool.{Bool, true, false, cond, _||_}
 use mathlib.Core.List.{List, [], _∷_, _++_}
 use lib.ListN.{length}
-use Rattle.comparison.specs.declared.judge.Verdict.{Verdict}
-use Rattle.comparison.specs.declared.judge.Verdict.the-variants.{Kept, KeptWarned, Ignored, IgnoredTwice}
-use Rattle.comparison.specs.declared.kind.Comparison.{Comparison}
+use Rattle.marker_verdict.specs.declared.verdict.Verdict.{Verdict}
+use Rattle.marker_verdict.specs.declared.verdict.Verdict.the-variants.{Kept, KeptWarned, Ignored, IgnoredTwice}
+use Rattle.marker_kind.specs.declared.kind.Comparison.{Comparison}
 use Rattle.marker_steps.specs.Grammar.{Tree, compared, both, either, group, keptOf, warnedOf}
-use Rattle.marker_steps.specs.declared.warning.Warning.{Warning}
+use Rattle.marker_store.specs.Numbers.{comparisonNumbers, warningNumbers, allNumbers}
+use Rattle.marker_store.specs.declared.marks.Warning.{Warning}
 
 -- whether anything of a tree is kept
 abbrev pub isKept : Verdict → Bool
@@ -56,3 +57,10 @@ marking t = record { comparisons = keptOf t; warnings = warnedOf t; words = prog
 
 abbrev pub nothing : Marking
 nothing = record { comparisons = []; warnings = []; words = [] }
+
+-- in numbers
+abbrev pub comparisonsAs : Marking → List ℕ
+comparisonsAs m = allNumbers comparisonNumbers (m .comparisons)
+
+abbrev pub warningsAs : Marking → List ℕ
+warningsAs m = allNumbers warningNumbers (m .warnings)

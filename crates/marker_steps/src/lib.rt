@@ -1,10 +1,7 @@
 // The steps of the marker reader that are no part of its cycle, and the grammar that they follow.
 mod part;
 mod step;
-mod store;
-mod warning;
 
-pub use part::Counts;
 pub use part::Onward;
 pub use part::Part;
 pub use part::Progress;
@@ -15,4 +12,3 @@ pub use step::close;
 pub use step::finish;
 pub use step::join;
 pub use step::take_in;
-pub use warning::Warning;

@@ -1,15 +1,10 @@
 // How far a part of a marker was read.
 ghost use mathlib.Core.Path.{_≡_};
-ghost use Rattle.marker_steps.specs.declared.part.Part.the-variants.{Read, Refused};
-use text::Cursor;
-use text::Refusal;
-
-// How many comparisons were kept, how many warnings were given, how many words the program has.
-pub struct Counts {
-    pub kept: usize,
-    pub warned: usize,
-    pub words: usize,
-}
+ghost use Rattle.marker_steps.specs.inner.Steps.{halted};
+ghost use Rattle.marker_steps.specs.declared.part.Part.the-variants.{Read};
+use cursor::Cursor;
+use marker_store::Counts;
+use refusal::Refusal;
 
 // Where a part ended and whether anything of it was kept; or the first fault.
 pub enum Part {
@@ -30,7 +25,7 @@ pub enum Onward {
 }
 
 pub fn refused(why: Refusal) -> Progress
-    ensures { λ r. ⌜ r .part ≡ Refused why ⌝ }
+    ensures { λ r. ⌜ r ≡ halted why ⌝ }
 {
     let counts = Counts {
         kept: 0,

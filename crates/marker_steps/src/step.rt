@@ -2,37 +2,44 @@
 ghost use mathlib.Core.Bool.{true, false};
 ghost use mathlib.Core.List.{List};
 ghost use mathlib.Core.Path.{_≡_};
-ghost use Prim.Native.Nat.{ℕ, _+_, _<_, _≤_};
+ghost use Prim.Native.Nat.{ℕ, _<_};
 ghost use lib.ListN.{length};
+ghost use Rattle.cursor.specs.Limits.{maxComparisons};
+ghost use Rattle.program_check.specs.Rules.{maxWords};
 ghost use Rattle.marker_steps.specs.Grammar.{keptIn, warnedIn, warningOf, settled, settle, wordAhead, andWord, orWord};
-ghost use Rattle.marker_steps.specs.Steps.{viewOf, shows, Inside, Slack, keeping, warning, pushed, taking, stateOf, onward, joined, closedBy, finished};
-use crate::part::Counts;
+ghost use Rattle.marker_steps.specs.inner.Steps.{viewOf, shows, Inside, Takes, Slack, keeping, warning, pushed, taking, readAfter, onward, joined, closedBy, finished};
 use crate::part::Onward;
 use crate::part::Part;
 use crate::part::Progress;
 use crate::part::read_to;
 use crate::part::refused;
-use crate::store::store_comparison;
-use crate::store::store_warning;
-use comparison::Comparison;
-use comparison::Found;
-use comparison::Verdict;
-use text::Cursor;
-use text::Fault;
-use text::Refusal;
-use text::Span;
+use cursor::Cursor;
+use marker_kind::Comparison;
+use marker_store::Comparisons;
+use marker_store::Counts;
+use marker_store::Warning;
+use marker_store::Warnings;
+use marker_store::Words;
+use marker_store::store_comparison;
+use marker_store::store_warning;
+use marker_verdict::Found;
+use marker_verdict::Verdict;
+use refusal::Fault;
+use refusal::Refusal;
+use refusal::Span;
 use text::has;
 use text::spelled;
 
-// A kept comparison: its five numbers, and the word that pushes it.
+// A kept comparison: its numbers, and the word that pushes it.
 fn keep(
-    comps: &mut [usize; 320],
-    words: &mut [u8; 127],
+    comps: &mut Comparisons,
+    words: &mut Words,
     counts: Counts,
     comparison: Comparison,
 ) -> Counts
-    requires { ⌜ (counts .kept < 64) × (counts .words < 127) ⌝ }
-    ensures { λ r. ⌜ ((ws : List ℕ) → viewOf (now (comps .exit)) ws (now (words .exit)) r ≡ keeping comparison (viewOf (now (comps .entry)) ws (now (words .entry)) counts)) ⌝ }
+    requires { ⌜ (counts .kept < maxComparisons) × (counts .words < maxWords) ⌝ }
+    ensures { λ r. ⌜ ((ws : List ℕ) → viewOf (now (comps .exit)) ws (now (words .exit)) r
+        ≡ keeping comparison (viewOf (now (comps .entry)) ws (now (words .entry)) counts)) ⌝ }
 {
     let kept = counts.kept;
     let count = counts.words;
@@ -45,13 +52,18 @@ fn keep(
     }
 }
 
-// A warning: its three numbers. An ignored comparison leaves nothing else.
-fn warn(warns: &mut [usize; 192], counts: Counts, kind: u8, span: Span) -> Counts
-    requires { ⌜ counts .warned < 64 ⌝ }
-    ensures { λ r. ⌜ ((cs ps : List ℕ) → viewOf cs (now (warns .exit)) ps r ≡ warning (warningOf kind span) (viewOf cs (now (warns .entry)) ps counts)) ⌝ }
+// A warning: its numbers. An ignored comparison leaves nothing else.
+fn warn(warns: &mut Warnings, counts: Counts, kind: u8, span: Span) -> Counts
+    requires { ⌜ counts .warned < maxComparisons ⌝ }
+    ensures { λ r. ⌜ ((cs ps : List ℕ) → viewOf cs (now (warns .exit)) ps r
+        ≡ warning (warningOf kind span) (viewOf cs (now (warns .entry)) ps counts)) ⌝ }
 {
     let warned = counts.warned;
-    store_warning(warns, warned, kind as usize, span);
+    let one = Warning {
+        kind: kind as usize,
+        span,
+    };
+    store_warning(warns, warned, one);
     Counts {
         kept: counts.kept,
         warned: warned + 1,
@@ -60,9 +72,10 @@ fn warn(warns: &mut [usize; 192], counts: Counts, kind: u8, span: Span) -> Count
 }
 
 // A word of the program that is no comparison's.
-fn push(words: &mut [u8; 127], counts: Counts, word: u8) -> Counts
-    requires { ⌜ counts .words < 127 ⌝ }
-    ensures { λ r. ⌜ ((cs ws : List ℕ) → viewOf cs ws (now (words .exit)) r ≡ pushed (viewOf cs ws (now (words .entry)) counts) word) ⌝ }
+fn push(words: &mut Words, counts: Counts, word: u8) -> Counts
+    requires { ⌜ counts .words < maxWords ⌝ }
+    ensures { λ r. ⌜ ((cs ws : List ℕ) → viewOf cs ws (now (words .exit)) r
+        ≡ pushed (viewOf cs ws (now (words .entry)) counts) word) ⌝ }
 {
     let count = counts.words;
     words[count] = word;
@@ -100,13 +113,14 @@ fn warned_in(verdict: Verdict) -> usize
 fn write_down(
     verdict: Verdict,
     span: Span,
-    comps: &mut [usize; 320],
-    warns: &mut [usize; 192],
-    words: &mut [u8; 127],
+    comps: &mut Comparisons,
+    warns: &mut Warnings,
+    words: &mut Words,
     counts: Counts,
 ) -> Counts
-    requires { ⌜ Inside counts × (counts .warned + length (warnedIn verdict span) ≤ 64) × (counts .kept + length (keptIn verdict) ≤ 64) ⌝ }
-    ensures { λ r. ⌜ viewOf (now (comps .exit)) (now (warns .exit)) (now (words .exit)) r ≡ taking verdict span (viewOf (now (comps .entry)) (now (warns .entry)) (now (words .entry)) counts) ⌝ }
+    requires { ⌜ Inside counts × Takes verdict span counts ⌝ }
+    ensures { λ r. ⌜ viewOf (now (comps .exit)) (now (warns .exit)) (now (words .exit)) r
+        ≡ taking verdict span (viewOf (now (comps .entry)) (now (warns .entry)) (now (words .entry)) counts) ⌝ }
 {
     match verdict {
         Verdict::Kept(comparison) => keep(comps, words, counts, comparison),
@@ -127,13 +141,15 @@ fn settle_one(
     verdict: Verdict,
     span: Span,
     next: Cursor,
-    comps: &mut [usize; 320],
-    warns: &mut [usize; 192],
-    words: &mut [u8; 127],
+    comps: &mut Comparisons,
+    warns: &mut Warnings,
+    words: &mut Words,
     counts: Counts,
 ) -> Progress
     requires { ⌜ Inside counts ⌝ }
-    ensures { λ r. ⌜ shows r (now (comps .exit)) (now (warns .exit)) (now (words .exit)) ≡ stateOf (settled verdict span (next .at) (counts .kept) (counts .warned)) (viewOf (now (comps .entry)) (now (warns .entry)) (now (words .entry)) counts) ⌝ }
+    ensures { λ r. ⌜ shows r (now (comps .exit)) (now (warns .exit)) (now (words .exit))
+        ≡ readAfter (settled verdict span (next .at))
+        (viewOf (now (comps .entry)) (now (warns .entry)) (now (words .entry)) counts) ⌝ }
 {
     let kept = kept_in(verdict);
     let warned = warned_in(verdict);
@@ -152,13 +168,14 @@ fn settle_one(
 // What stands where an item starts, if that is no group.
 pub fn take_in(
     found: Found,
-    comps: &mut [usize; 320],
-    warns: &mut [usize; 192],
-    words: &mut [u8; 127],
+    comps: &mut Comparisons,
+    warns: &mut Warnings,
+    words: &mut Words,
     counts: Counts,
 ) -> Progress
     requires { ⌜ Inside counts ⌝ }
-    ensures { λ r. ⌜ shows r (now (comps .exit)) (now (warns .exit)) (now (words .exit)) ≡ stateOf (settle found (counts .kept) (counts .warned)) (viewOf (now (comps .entry)) (now (warns .entry)) (now (words .entry)) counts) ⌝ }
+    ensures { λ r. ⌜ shows r (now (comps .exit)) (now (warns .exit)) (now (words .exit))
+        ≡ readAfter (settle found) (viewOf (now (comps .entry)) (now (warns .entry)) (now (words .entry)) counts) ⌝ }
 {
     match found {
         Found::Comparison {
@@ -172,7 +189,8 @@ pub fn take_in(
 
 // After a group's inside: its closing byte.
 pub fn close(line: &[u8], opened: usize, inner: Progress) -> Progress
-    ensures { λ r. ⌜ ((cs ws ps : List ℕ) → shows r cs ws ps ≡ closedBy (now (line .entry)) opened (shows inner cs ws ps)) ⌝ }
+    ensures { λ r. ⌜ ((cs ws ps : List ℕ) → shows r cs ws ps
+        ≡ closedBy (now (line .entry)) opened (shows inner cs ws ps)) ⌝ }
 {
     let part = inner.part;
     match part {
@@ -224,9 +242,10 @@ pub fn ahead_or(line: &[u8], left: Progress) -> Onward
 }
 
 // The right side, with the joining word where both sides kept something.
-pub fn join(some_left: bool, right: Progress, words: &mut [u8; 127], word: u8) -> Progress
+pub fn join(some_left: bool, right: Progress, words: &mut Words, word: u8) -> Progress
     requires { ⌜ («some_left» ≡ true → Slack true right) ⌝ }
-    ensures { λ r. ⌜ ((cs ws : List ℕ) → shows r cs ws (now (words .exit)) ≡ joined «some_left» (shows right cs ws (now (words .entry))) word) ⌝ }
+    ensures { λ r. ⌜ ((cs ws : List ℕ) → shows r cs ws (now (words .exit))
+        ≡ joined «some_left» (shows right cs ws (now (words .entry))) word) ⌝ }
 {
     let part = right.part;
     match part {
@@ -248,9 +267,10 @@ pub fn join(some_left: bool, right: Progress, words: &mut [u8; 127], word: u8) -
 }
 
 // The whole marker: nothing may follow, and where nothing was kept the program is the one word 66.
-pub fn finish(line: &[u8], whole: Progress, words: &mut [u8; 127]) -> Progress
+pub fn finish(line: &[u8], whole: Progress, words: &mut Words) -> Progress
     requires { ⌜ Slack false whole ⌝ }
-    ensures { λ r. ⌜ ((cs ws : List ℕ) → shows r cs ws (now (words .exit)) ≡ finished (now (line .entry)) (shows whole cs ws (now (words .entry)))) ⌝ }
+    ensures { λ r. ⌜ ((cs ws : List ℕ) → shows r cs ws (now (words .exit))
+        ≡ finished (now (line .entry)) (shows whole cs ws (now (words .entry)))) ⌝ }
 {
     let part = whole.part;
     match part {

@@ -4,7 +4,7 @@ use mathlib.Core.List.{List, [], _∷_, map}
 use mathlib.Core.Path.{_≡_, refl}
 use Prim.Native.Nat.{ℕ}
 use Prim.Native.Char.{code}
-use Rattle.text.specs.Answer.{Answer, good, refused}
+use Rattle.refusal.specs.Answer.{Answer, good, refused}
 use Rattle.text.specs.Class.{isAscii, isSpace, isDigit, isAlnum, isNameByte, isOperatorByte, isTokenByte, isWordByte, isOperatorWordByte, isBareByte, isEnclosedByte, isOther}
 use Rattle.text.specs.Scan.{run, skip}
 use Rattle.text.specs.Word.{bytes}

@@ -1,20 +1,21 @@
 -- The normal form of a good name is good. Assumes nothing.
 use mathlib.Core.Path.{_≡_, refl, sym, ap, _∙_}
 use mathlib.Core.Bool.{Bool, true, false, cond, and-false}
-use mathlib.Core.List.{List, [], _∷_, append-nil}
+use mathlib.Core.List.{List, [], _∷_}
 use Prim.Native.Nat.{ℕ, suc, _+_, _-_, _≤_, zero-le}
 use native.Mathlib.Omega.{arith}
 use borrow.Author.Tests.{le-leb, le-ltb, ltb-true, ltb-false}
 use lib.Dec.{ltb}
-use lib.ListN.{length, drop, getD, drop-of-length-le}
+use lib.ListN.{length, getD}
+use Rattle.arrays.specs.Front.{onto}
+use Rattle.refusal.specs.Answer.{good}
 use Rattle.text.proofs.Cases.{within-true}
 use Rattle.text.proofs.Reach.{run-le}
 use Rattle.text.specs.Class.{isCapital, isSeparator, isNameByte}
 use Rattle.text.specs.Scan.{run}
 use Rattle.name.proofs.Idempotent.{form-separator, normal-head, idempotent}
 use Rattle.name.proofs.Laws.{kept, gone}
-use Rattle.text.specs.Answer.{good}
-use Rattle.name.specs.Normal.{form, goes, normal, badAt}
+use Rattle.name.specs.Normal.{form, merges, normal, badAt}
 use Rattle.name.specs.Normalise.{normalised, output}
 
 -- the last byte
@@ -40,7 +41,7 @@ form-name b h = go (isSeparator b) (isCapital b) refl refl
 names-stay : (s : List ℕ) → run isNameByte s ≡ length s → run isNameByte (normal s) ≡ length (normal s)
 unfolding run normal
 names-stay [] h = refl
-names-stay (b ∷ s) h = go (isNameByte b) refl (goes (b ∷ s)) h (names-stay s)
+names-stay (b ∷ s) h = go (isNameByte b) refl (merges (b ∷ s)) h (names-stay s)
   where
     go : (t : Bool) → isNameByte b ≡ t → (u : Bool) → cond t (suc (run isNameByte s)) 0 ≡ suc (length s) → (run isNameByte s ≡ length s → run isNameByte (normal s) ≡ length (normal s)) → run isNameByte (cond u (normal s) (form b ∷ normal s)) ≡ length (cond u (normal s) (form b ∷ normal s))
     go true n true e again = again (omega arith)
@@ -50,18 +51,18 @@ names-stay (b ∷ s) h = go (isNameByte b) refl (goes (b ∷ s)) h (names-stay s
 -- the last byte stays a separator, or none
 normal-some : (c : ℕ) (t : List ℕ) → (d : ℕ) × (l : List ℕ) × (normal (c ∷ t) ≡ d ∷ l)
 normal-some c [] = (form c, normal [], kept (c ∷ []) c [] refl (and-false (isSeparator c)))
-normal-some c (x ∷ t) = go (goes (c ∷ x ∷ t)) refl (normal-some x t)
+normal-some c (x ∷ t) = go (merges (c ∷ x ∷ t)) refl (normal-some x t)
   where
-    go : (u : Bool) → goes (c ∷ x ∷ t) ≡ u → (d : ℕ) × (l : List ℕ) × (normal (x ∷ t) ≡ d ∷ l) → (d : ℕ) × (l : List ℕ) × (normal (c ∷ x ∷ t) ≡ d ∷ l)
+    go : (u : Bool) → merges (c ∷ x ∷ t) ≡ u → (d : ℕ) × (l : List ℕ) × (normal (x ∷ t) ≡ d ∷ l) → (d : ℕ) × (l : List ℕ) × (normal (c ∷ x ∷ t) ≡ d ∷ l)
     go true h r = (r .0, r .1, gone (c ∷ x ∷ t) c (x ∷ t) refl h ∙ r .2)
     go false h r = (form c, normal (x ∷ t), kept (c ∷ x ∷ t) c (x ∷ t) refl h)
 
 normal-last : (b : ℕ) (s : List ℕ) → isSeparator (last (normal (b ∷ s))) ≡ isSeparator (last (b ∷ s))
 unfolding normal
 normal-last b [] = rw (and-false (isSeparator b)) (form-separator b)
-normal-last b (c ∷ t) = go (goes (b ∷ c ∷ t)) refl (normal-last c t) (normal-some c t)
+normal-last b (c ∷ t) = go (merges (b ∷ c ∷ t)) refl (normal-last c t) (normal-some c t)
   where
-    go : (u : Bool) → goes (b ∷ c ∷ t) ≡ u → isSeparator (last (normal (c ∷ t))) ≡ isSeparator (last (c ∷ t)) → (d : ℕ) × (l : List ℕ) × (normal (c ∷ t) ≡ d ∷ l) → isSeparator (last (normal (b ∷ c ∷ t))) ≡ isSeparator (last (b ∷ c ∷ t))
+    go : (u : Bool) → merges (b ∷ c ∷ t) ≡ u → isSeparator (last (normal (c ∷ t))) ≡ isSeparator (last (c ∷ t)) → (d : ℕ) × (l : List ℕ) × (normal (c ∷ t) ≡ d ∷ l) → isSeparator (last (normal (b ∷ c ∷ t))) ≡ isSeparator (last (b ∷ c ∷ t))
     go true h again some =
         ap (λ (m : List ℕ). isSeparator (last m)) (gone (b ∷ c ∷ t) b (c ∷ t) refl h) ∙ again ∙ ap isSeparator (sym (last-cons b c t))
     go false h again some =
@@ -85,22 +86,20 @@ stays-good (b ∷ s) h = go (isSeparator b) refl (ltb (run isNameByte (b ∷ s))
         let stay = names-stay (b ∷ s) full in
         rw (normal-head (b ∷ s) ∙ p, le-ltb (run isNameByte (normal (b ∷ s))) (length (normal (b ∷ s))) (omega arith), normal-last b s ∙ r)
 
+-- so whoever normalises the normal form of a good name gets it back, in every output that has room for it
+module _ (s : List ℕ) (good-name : badAt s ≡ length s) where
+  pub again : (room : ℕ) → length (normal s) ≤ room → normalised (normal s) room ≡ good (length (normal s))
+  again room fits = rw (stays-good s good-name, le-ltb (length (normal s)) (length (normal s)) (omega arith), idempotent s, le-ltb room (length (normal s)))
+
+  pub again-written : (out : List ℕ) → length (normal s) ≤ length out → output (normal s) out ≡ onto (normal s) out
+  again-written out fits = rw (again (length out) fits, idempotent s)
+
 -- no normal form is longer than its name
 pub no-longer : (s : List ℕ) → length (normal s) ≤ length s
 unfolding normal
 no-longer [] = zero-le
-no-longer (b ∷ s) = go (goes (b ∷ s)) (no-longer s)
+no-longer (b ∷ s) = go (merges (b ∷ s)) (no-longer s)
   where
     go : (t : Bool) → length (normal s) ≤ length s → length (cond t (normal s) (form b ∷ normal s)) ≤ suc (length s)
     go true h = omega arith
     go false h = omega arith
-
--- so whoever normalises the normal form of a good name gets it back, in a buffer just as long
-pub again : (s : List ℕ) → badAt s ≡ length s → normalised (normal s) (length (normal s)) ≡ good (length (normal s))
-again s h =
-    rw (stays-good s h, le-ltb (length (normal s)) (length (normal s)) (omega arith), idempotent s, le-ltb (length (normal s)) (length (normal s)) (omega arith))
-
-pub again-written : (s out : List ℕ) → badAt s ≡ length s → length out ≡ length (normal s) → output (normal s) out ≡ normal s
-again-written s out h room =
-    let none : drop (length (normal s)) out ≡ [] = drop-of-length-le out {i = length (normal s)} (omega arith) in
-    rw (room, again s h, idempotent s, none) (append-nil (normal s))

@@ -9,7 +9,7 @@ use lib.ListN.{getD}
 use Rattle.text.proofs.Cases.{both, within-true}
 use Rattle.text.specs.Class.{isCapital, isSeparator}
 use Rattle.name.proofs.Laws.{kept}
-use Rattle.name.specs.Normal.{form, goes, normal}
+use Rattle.name.specs.Normal.{form, merges, normal}
 
 -- a capital made small is no separator and no capital
 module _ (b : ℕ) (h : isCapital b ≡ true) where
@@ -42,17 +42,17 @@ form-form b = go (isSeparator b) (isCapital b) refl refl
 pub normal-head : (s : List ℕ) → isSeparator (getD (normal s) 0 0) ≡ isSeparator (getD s 0 0)
 unfolding normal
 normal-head [] = refl
-normal-head (b ∷ s) = go (goes (b ∷ s)) refl (normal-head s)
+normal-head (b ∷ s) = go (merges (b ∷ s)) refl (normal-head s)
   where
-    go : (t : Bool) → goes (b ∷ s) ≡ t → isSeparator (getD (normal s) 0 0) ≡ isSeparator (getD s 0 0) → isSeparator (getD (cond t (normal s) (form b ∷ normal s)) 0 0) ≡ isSeparator b
+    go : (t : Bool) → merges (b ∷ s) ≡ t → isSeparator (getD (normal s) 0 0) ≡ isSeparator (getD s 0 0) → isSeparator (getD (cond t (normal s) (form b ∷ normal s)) 0 0) ≡ isSeparator b
     go true h head = let w = both (isSeparator b) (isSeparator (getD s 0 0)) h in cc
     go false h head = form-separator b
 
 pub idempotent : (s : List ℕ) → normal (normal s) ≡ normal s
 unfolding normal
 idempotent [] = refl
-idempotent (b ∷ s) = go (goes (b ∷ s)) refl (idempotent s)
+idempotent (b ∷ s) = go (merges (b ∷ s)) refl (idempotent s)
   where
-    go : (t : Bool) → goes (b ∷ s) ≡ t → normal (normal s) ≡ normal s → normal (cond t (normal s) (form b ∷ normal s)) ≡ cond t (normal s) (form b ∷ normal s)
+    go : (t : Bool) → merges (b ∷ s) ≡ t → normal (normal s) ≡ normal s → normal (cond t (normal s) (form b ∷ normal s)) ≡ cond t (normal s) (form b ∷ normal s)
     go true h again = again
     go false h again = kept (form b ∷ normal s) _ _ refl (ap₂ _&&_ (form-separator b) (normal-head s) ∙ h) ∙ ap₂ _∷_ (form-form b) again

@@ -1,38 +1,39 @@
--- The laws of `normal`, which answer the loops that measure and write it. Assumes nothing.
+-- The laws of the normal form, of the first bad byte and of the three answers, which answer the functions of this crate. Assumes nothing.
 use mathlib.Core.Path.{_≡_, refl, sym, ap, _∙_}
 use mathlib.Core.Bool.{Bool, true, false, false≢true}
-use mathlib.Core.List.{List, [], _∷_, _++_}
+use mathlib.Core.List.{List, [], _∷_}
 use Prim.Native.Nat.{ℕ, _+_, _-_, _≤_, _<_}
 use native.Mathlib.Numerals.{add-one}
 use native.Mathlib.Omega.{arith}
 use borrow.Author.Tests.{lt-ltb, le-ltb}
 use lib.ListN.{length, drop, getD, drop-of-length-le}
 use lib.Seq.{drop-cons}
+use Rattle.arrays.proofs.Front.{Front, front, count-one, front-room}
+use Rattle.arrays.specs.Front.{onto}
+use Rattle.refusal.proofs.Numbers.{given-is}
+use Rattle.refusal.specs.Answer.{good}
+use Rattle.refusal.specs.Refusal.{refusal, given}
+use Rattle.refusal.specs.declared.fault.Fault.the-variants.{NameBad, OutputShort}
+use Rattle.refusal.specs.declared.fault.Refusal.{Refusal}
 use Rattle.text.proofs.Cases.{cases, by-order}
-use Rattle.text.proofs.Front.{Front, front, count-one, front-room}
 use Rattle.text.proofs.Reach.{run-le}
 use Rattle.text.specs.Class.{isSeparator, isNameByte}
 use Rattle.text.specs.Scan.{run, byteAt}
-use Rattle.text.proofs.Laws.{given-is}
-use Rattle.text.specs.Answer.{good}
-use Rattle.text.specs.Refusal.{refusal, given}
-use Rattle.text.specs.declared.refusal.Fault.the-variants.{NameBad, OutputShort}
-use Rattle.text.specs.declared.refusal.Refusal.{Refusal}
-use Rattle.name.specs.Normal.{form, goes, normal, badAt}
+use Rattle.name.specs.Normal.{form, merges, normal, badAt}
 use Rattle.name.specs.Normalise.{normalised, output}
 
 -- the normal form of a text by its first byte
 module _ (l : List ℕ) (b : ℕ) (t : List ℕ) (e : l ≡ b ∷ t) where
-  pub gone : goes l ≡ true → normal l ≡ normal t
+  pub gone : merges l ≡ true → normal l ≡ normal t
   unfolding normal
   gone h = rw (e, rw e at h)
 
-  pub kept : goes l ≡ false → normal l ≡ form b ∷ normal t
+  pub kept : merges l ≡ false → normal l ≡ form b ∷ normal t
   unfolding normal
   kept h = rw (e, rw e at h)
 
--- a turn: the byte at i goes, or is kept; and the end
-module _ (s : List ℕ) (i : ℕ) (r : Bool) (told : r ≡ goes (drop i s)) (h : i < length s) where
+-- a turn: the byte at i merges, or is kept; and the end
+module _ (s : List ℕ) (i : ℕ) (r : Bool) (told : r ≡ merges (drop i s)) (h : i < length s) where
   pub normal-gone : r ≡ true → normal (drop i s) ≡ normal (drop (i + 1) s)
   normal-gone t = rw add-one (gone (drop i s) _ _ (drop-cons s i 0 h) (sym told ∙ t))
 
@@ -98,7 +99,7 @@ module _ (s out : List ℕ) (bad : ℕ) (found : bad ≡ badAt s) where
     pub answer-written : (room : ℕ) → n ≤ room → good n ≡ normalised s room
     answer-written room l = rw (← found, le-ltb bad (length s), ← size, le-ltb room n)
 
-    pub written-out : (now : List ℕ) → n ≤ length out → now ≡ normal s ++ drop (length (normal s)) out → now ≡ output s out
-    written-out now l e = rw (← found, le-ltb bad (length s), ← size, le-ltb (length out) n, size) e
+    pub written-out : (now : List ℕ) → n ≤ length out → now ≡ onto (normal s) out → now ≡ output s out
+    written-out now l e = rw (← found, le-ltb bad (length s), ← size, le-ltb (length out) n) e
 
 pub ruleset normals = (bad-front, bad-inside, bad-last, bad-none, last-some, normal-gone, normal-kept, normal-end, kept-count, kept-room, answer-bad, kept-bad, answer-short, kept-short, answer-written, written-out, front, cases)

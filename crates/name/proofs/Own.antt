@@ -1,7 +1,7 @@
 -- The contract in document 01's terms leaves one answer. Assumes nothing.
 use mathlib.Core.Path.{_≡_, ap}
-use Rattle.text.proofs.Numbers.{given-own}
-use Rattle.text.specs.Refusal.{given}
+use Rattle.refusal.proofs.Numbers.{given-own}
+use Rattle.refusal.specs.Refusal.{given}
 use Rattle.name.specs.Normalise.{told}
 use Rattle.name.specs.declared.Normalised.{Normalised}
 use Rattle.name.specs.declared.Normalised.the-variants.{Written, Refused}

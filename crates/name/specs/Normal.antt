@@ -12,14 +12,14 @@ use Rattle.text.specs.Scan.{run, byteAt}
 abbrev pub form : ℕ → ℕ
 form b = cond (isSeparator b) (code "-") (small b)
 
--- whether a text's first byte goes: a separator that another follows, so that of a run one stays
-abbrev pub goes : List ℕ → Bool
-goes s = isSeparator (byteAt s 0) && isSeparator (byteAt s 1)
+-- whether a text's first byte merges with the next: a separator that another follows, so that of a run one stays
+abbrev pub merges : List ℕ → Bool
+merges s = isSeparator (byteAt s 0) && isSeparator (byteAt s 1)
 
 -- "Empty gives empty."
 unfoldable pub normal : List ℕ → List ℕ
 normal [] = []
-normal (b ∷ s) = cond (goes (b ∷ s)) (normal s) (form b ∷ normal s)
+normal (b ∷ s) = cond (merges (b ∷ s)) (normal s) (form b ∷ normal s)
 
 -- "such a run first or last, or any other byte, is 28": "first bad byte, or last byte if that is `.` `-` `_`"; the length where nothing is bad
 unfoldable pub badAt : List ℕ → ℕ

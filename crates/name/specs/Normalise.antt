@@ -1,11 +1,12 @@
 -- What the normaliser answers, and what the output holds afterwards.
 use Prim.Native.Nat.{ℕ}
 use mathlib.Core.Bool.{cond}
-use mathlib.Core.List.{List, _++_}
+use mathlib.Core.List.{List}
 use lib.Dec.{ltb}
-use lib.ListN.{length, drop}
-use Rattle.text.specs.Answer.{Answer, good, refused}
-use Rattle.text.specs.Refusal.{given}
+use lib.ListN.{length}
+use Rattle.arrays.specs.Front.{onto}
+use Rattle.refusal.specs.Answer.{Answer, good, refused}
+use Rattle.refusal.specs.Refusal.{given}
 use Rattle.name.specs.Normal.{normal, badAt}
 use Rattle.name.specs.declared.Normalised.{Normalised}
 use Rattle.name.specs.declared.Normalised.the-variants.{Written, Refused}
@@ -19,7 +20,7 @@ normalised s room =
 
 -- "Success writes the normal form at the output's front; the rest stays." A refusal leaves all as it was.
 abbrev pub after : Answer ℕ → List ℕ → List ℕ → List ℕ
-after (good n) s out = normal s ++ drop n out
+after (good n) s out = onto (normal s) out
 after (refused number start len) s out = out
 
 abbrev pub output : List ℕ → List ℕ → List ℕ

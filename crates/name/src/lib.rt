@@ -1,15 +1,15 @@
 // The normal form of a name.
 ghost use mathlib.Core.Path.{_≡_};
-ghost use mathlib.Core.List.{_++_};
 ghost use Prim.Native.Nat.{_≤_, _<_};
 ghost use lib.ListN.{length, drop};
+ghost use Rattle.arrays.specs.Front.{onto};
 ghost use Rattle.text.specs.Class.{isNameByte};
 ghost use Rattle.text.specs.Scan.{run};
-ghost use Rattle.name.specs.Normal.{form, goes, normal, badAt};
+ghost use Rattle.name.specs.Normal.{form, merges, normal, badAt};
 ghost use Rattle.name.specs.Normalise.{normalised, output, told};
-use text::Cursor;
-use text::Fault;
-use text::Refusal;
+use cursor::Cursor;
+use refusal::Fault;
+use refusal::Refusal;
 
 pub enum Normalised {
     // So many bytes stand at the output's front.
@@ -53,10 +53,10 @@ pub fn bad_at(name: &[u8]) -> usize
     end
 }
 
-// Whether the byte at a place goes: a separator before another.
-fn goes_at(name: &[u8], i: usize) -> bool
+// Whether the byte at a place merges with the next: a separator before another.
+fn merges_at(name: &[u8], i: usize) -> bool
     requires { ⌜ i < length (now name) ⌝ }
-    ensures { λ r. ⌜ r ≡ goes (drop i (now (name .entry))) ⌝ }
+    ensures { λ r. ⌜ r ≡ merges (drop i (now (name .entry))) ⌝ }
 {
     text::separator_at(name, i) & text::separator_at(name, i + 1)
 }
@@ -66,13 +66,13 @@ fn measure(name: &[u8]) -> usize
     ensures { λ r. ⌜ r ≡ length (normal (now (name .entry))) ⌝ }
 {
     let mut n: usize = 0;
-    let mut i = 0;
-    while i < name.len() {
-        if goes_at(name, i) {
-            i += 1;
+    let mut at = 0;
+    while at < name.len() {
+        if merges_at(name, at) {
+            at += 1;
         } else {
             n += 1;
-            i += 1;
+            at += 1;
         }
     }
     n
@@ -81,12 +81,12 @@ fn measure(name: &[u8]) -> usize
 // Writes the normal form at the output's front.
 fn write(name: &[u8], out: &mut [u8])
     requires { ⌜ length (normal (now name)) ≤ length (now out) ⌝ }
-    ensures { λ _. ⌜ now (out .exit) ≡ normal (now (name .entry)) ++ drop (length (normal (now (name .entry)))) (now (out .entry)) ⌝ }
+    ensures { λ _. ⌜ now (out .exit) ≡ onto (normal (now (name .entry))) (now (out .entry)) ⌝ }
 {
     let mut n: usize = 0;
     let mut i = 0;
     while i < name.len() {
-        if goes_at(name, i) {
+        if merges_at(name, i) {
             i += 1;
         } else {
             out[n] = formed(name[i]);

@@ -2,11 +2,11 @@
 ghost use Prim.Native.Nat.{_≤_, _<_};
 use libc::STDIN_FILENO;
 use libc::STDOUT_FILENO;
-use program::Passed;
-use program::Ran;
-use text::Refusal;
+use program_run::Ran;
+use refusal::Outcome;
+use refusal::Refusal;
 
-enum Outcome {
+enum Compared {
     End,
     Same,
     Differs,
@@ -88,10 +88,10 @@ fn good(value: u8) -> Told {
     }
 }
 
-fn of_check(answer: Passed) -> Told {
+fn of_check(answer: Outcome) -> Told {
     match answer {
-        Passed::Good => good(0),
-        Passed::Refused(why) => of_refusal(why),
+        Outcome::Good => good(0),
+        Outcome::Refused(why) => of_refusal(why),
     }
 }
 
@@ -116,8 +116,8 @@ fn agrees(line: &[u8], words: &[u8]) -> bool {
         len: hex(line, 42, 44),
         value: hex_digit(text::byte_at(line, 45)),
     };
-    let checked = of_check(program::check(words, count));
-    let ran = of_run(program::run(words, count, assignment));
+    let checked = of_check(program_check::check(words, count));
+    let ran = of_run(program_run::run(words, count, assignment));
     same_refusal(checked, want) & same_refusal(ran, want) & (ran.value == want.value)
 }
 
@@ -164,23 +164,23 @@ fn words_of(line: &[u8; 511]) -> usize
 }
 
 // Reads a line and compares; `shows` has a line that differs written out.
-fn one_case(shows: bool) -> Outcome {
+fn one_case(shows: bool) -> Compared {
     let mut line = [0u8; 511];
     if read_front(&mut line, 50) < 50 {
-        return Outcome::End;
+        return Compared::End;
     }
     let n = words_of(&line);
     let mut rest = [0u8; 511];
     read_front(&mut rest, 2 * n + 1);
     let words = decode(&rest, n);
     if front_agrees(&line, &words, n) {
-        return Outcome::Same;
+        return Compared::Same;
     }
     if shows {
         write_front(&line, 50);
         write_front(&rest, 2 * n + 1);
     }
-    Outcome::Differs
+    Compared::Differs
 }
 
 fn count_all() -> Tally {
@@ -188,13 +188,13 @@ fn count_all() -> Tally {
     let mut differ: u64 = 0;
     while cases < 1000000 {
         match one_case(differ < 5) {
-            Outcome::End => {
+            Compared::End => {
                 return Tally { cases, differ };
             }
-            Outcome::Same => {
+            Compared::Same => {
                 cases += 1;
             }
-            Outcome::Differs => {
+            Compared::Differs => {
                 cases += 1;
                 differ += 1;
             }

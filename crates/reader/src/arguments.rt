@@ -1,4 +1,4 @@
-// The program's arguments. They are gone through twice: first for the options and how many files there are, then file by file.
+// The reader's arguments. They are gone through twice: first for the options and how many files there are, then file by file.
 
 // A path of the most bytes that the system takes.
 pub const PATH: usize = 4095;

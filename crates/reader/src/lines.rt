@@ -13,12 +13,24 @@ use crate::tally::LINES;
 use crate::tally::PASSED_OVER;
 use crate::tally::count;
 use crate::tally::counted;
+use figures::LENGTH;
+use figures::LINE_FIGURES;
+use figures::LineFigures;
+use figures::START;
 use input::Ended;
 use input::Feed;
 use input::HELD;
 use libc::STDERR_FILENO;
 use libc::STDOUT_FILENO;
+use marker_store::COMPARISONS_ROOM;
+use marker_store::Comparisons;
+use marker_store::WARNINGS_ROOM;
+use marker_store::Warnings;
+use marker_store::Words;
 use output::ROOM;
+use program_check::MAX_WORDS;
+use spans::LIST_NUMBERS;
+use spans::SpanNumbers;
 
 // How far reading came: what waits in the output, and whether a read failed.
 pub struct Come {
@@ -42,7 +54,7 @@ fn held(len: usize) -> usize {
     if len < HELD { len } else { HELD }
 }
 
-// A comment or a line of white space alone. Of a line that is longer than what is held this cannot be said, and it is judged.
+// A comment or a line of white space alone. Of a line that is longer than what is held this cannot be said, and it is read.
 fn is_passed_over(line: &[u8; HELD], len: usize) -> bool {
     if len > HELD {
         return line[0] == b'#';
@@ -50,15 +62,15 @@ fn is_passed_over(line: &[u8; HELD], len: usize) -> bool {
     len == 0 || line[0] == b'#' || first_solid(line, 0, len) == len
 }
 
-fn judge_front(
+fn read_front(
     line: &[u8],
     n: usize,
-    figures: &mut [usize; 12],
-    extras: &mut [usize; 64],
-    specifiers: &mut [usize; 64],
-    comparisons: &mut [usize; 320],
-    warnings: &mut [usize; 192],
-    words: &mut [u8; 127],
+    figures: &mut LineFigures,
+    extras: &mut SpanNumbers,
+    specifiers: &mut SpanNumbers,
+    comparisons: &mut Comparisons,
+    warnings: &mut Warnings,
+    words: &mut Words,
 ) -> u8 {
     if n <= line.len() {
         gateway::hulmisker_line(
@@ -75,17 +87,17 @@ fn judge_front(
     }
 }
 
-fn judge(
+fn read_held(
     line: &[u8; HELD],
     len: usize,
-    figures: &mut [usize; 12],
-    extras: &mut [usize; 64],
-    specifiers: &mut [usize; 64],
-    comparisons: &mut [usize; 320],
-    warnings: &mut [usize; 192],
-    words: &mut [u8; 127],
+    figures: &mut LineFigures,
+    extras: &mut SpanNumbers,
+    specifiers: &mut SpanNumbers,
+    comparisons: &mut Comparisons,
+    warnings: &mut Warnings,
+    words: &mut Words,
 ) -> u8 {
-    judge_front(
+    read_front(
         line,
         held(len),
         figures,
@@ -104,12 +116,20 @@ fn tell_refused(
     line: &[u8; HELD],
     len: usize,
     number: u8,
-    figures: &[usize; 12],
+    figures: &LineFigures,
     out: &mut [u8; ROOM],
     at: usize,
 ) -> usize {
     if style.plain {
-        put_refused_row(out, at, path, place, number, figures[0], figures[1])
+        put_refused_row(
+            out,
+            at,
+            path,
+            place,
+            number,
+            figures[START],
+            figures[LENGTH],
+        )
     } else {
         put_refused(out, at, path, place, line, len, number, figures)
     }
@@ -120,12 +140,12 @@ fn tell_accepted(
     path: &[u8; PATH],
     place: Place,
     line: &[u8; HELD],
-    figures: &[usize; 12],
-    extras: &[usize; 64],
-    specifiers: &[usize; 64],
-    comparisons: &[usize; 320],
-    warnings: &[usize; 192],
-    words: &[u8; 127],
+    figures: &LineFigures,
+    extras: &SpanNumbers,
+    specifiers: &SpanNumbers,
+    comparisons: &Comparisons,
+    warnings: &Warnings,
+    words: &Words,
     normal: &mut [u8; NAME],
     out: &mut [u8; ROOM],
     at: usize,
@@ -175,13 +195,13 @@ fn tell_line(
     out: &mut [u8; ROOM],
     at: usize,
 ) -> usize {
-    let mut figures = [0usize; 12];
-    let mut extras = [0usize; 64];
-    let mut specifiers = [0usize; 64];
-    let mut comparisons = [0usize; 320];
-    let mut warnings = [0usize; 192];
-    let mut words = [0u8; 127];
-    let number = judge(
+    let mut figures = [0usize; LINE_FIGURES];
+    let mut extras = [0usize; LIST_NUMBERS];
+    let mut specifiers = [0usize; LIST_NUMBERS];
+    let mut comparisons = [0usize; COMPARISONS_ROOM];
+    let mut warnings = [0usize; WARNINGS_ROOM];
+    let mut words = [0u8; MAX_WORDS];
+    let number = read_held(
         line,
         len,
         &mut figures,

@@ -1,9 +1,9 @@
 // Reads requirement lines from files or from standard input, and says of each what it is or why and where it is refused.
 mod accepted;
 mod arguments;
+mod details;
 mod files;
 mod lines;
-mod lists;
 mod parts;
 mod place;
 mod plain;
@@ -25,7 +25,7 @@ fn usage() {
     );
 }
 
-// The last line: what was counted. Rows are for other programs and have none.
+// The last line: what was counted. Rows are for other tools and have none.
 fn end(plain: bool, counts: &[u64; COUNTS], out: &mut [u8; ROOM], at: usize) {
     let n = if plain {
         at

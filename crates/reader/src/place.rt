@@ -5,7 +5,7 @@ use output::put;
 use output::put_number;
 use output::put_text;
 
-// How it is told: as rows for other programs, and with the file's name where there are several.
+// How it is told: as rows for other tools, and with the file's name where there are several.
 pub struct Style {
     pub plain: bool,
     pub named: bool,

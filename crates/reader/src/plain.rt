@@ -1,14 +1,21 @@
-// One row for each line, for other programs to read.
+// One row for each line, for other tools to read.
 use crate::accepted::NAME;
 use crate::accepted::put_normal_name;
 use crate::arguments::PATH;
 use crate::place::Place;
 use crate::place::put_columns;
 use crate::place::put_name;
+use figures::LINE_NAME_LENGTH;
+use figures::LINE_NAME_START;
+use figures::LineFigures;
 use input::HELD;
+use marker_store::Comparisons;
+use marker_store::Warnings;
+use marker_store::Words;
 use output::ROOM;
 use output::put;
 use output::put_text;
+use spans::SpanNumbers;
 use wording::put_parts;
 use wording::put_refused;
 
@@ -18,17 +25,24 @@ pub fn put_accepted_row(
     path: &[u8; PATH],
     place: Place,
     line: &[u8; HELD],
-    figures: &[usize; 12],
-    extras: &[usize; 64],
-    specifiers: &[usize; 64],
-    comparisons: &[usize; 320],
-    warnings: &[usize; 192],
-    words: &[u8; 127],
+    figures: &LineFigures,
+    extras: &SpanNumbers,
+    specifiers: &SpanNumbers,
+    comparisons: &Comparisons,
+    warnings: &Warnings,
+    words: &Words,
     normal: &mut [u8; NAME],
 ) -> usize {
     let n = put_columns(out, at, path, place);
     let n = put_text(out, n, b"ok\t");
-    let n = put_normal_name(out, n, line, figures[2], figures[3], normal);
+    let n = put_normal_name(
+        out,
+        n,
+        line,
+        figures[LINE_NAME_START],
+        figures[LINE_NAME_LENGTH],
+        normal,
+    );
     let n = put(out, n, b'\t');
     let n = put_parts(
         out,

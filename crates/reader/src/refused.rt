@@ -1,6 +1,6 @@
 // A refused line: the number and the reason, and the line with its fault marked.
 use crate::arguments::PATH;
-use crate::lists::put_place;
+use crate::details::put_place;
 use crate::parts::Part;
 use crate::parts::sum;
 use crate::place::Place;
@@ -8,6 +8,9 @@ use crate::place::put_heading;
 use crate::reasons::put_reason;
 use crate::shown::put_shown;
 use crate::shown::put_times;
+use figures::LENGTH;
+use figures::LineFigures;
+use figures::START;
 use input::HELD;
 use output::ROOM;
 use output::put;
@@ -84,10 +87,10 @@ pub fn put_refused(
     line: &[u8; HELD],
     line_len: usize,
     number: u8,
-    figures: &[usize; 12],
+    figures: &LineFigures,
 ) -> usize {
-    let start = figures[0];
-    let len = figures[1];
+    let start = figures[START];
+    let len = figures[LENGTH];
     let part = window(line_len, start);
     let n = put_heading(out, at, path, place, b"refused ");
     let n = put_fault(out, n, number, start, len);

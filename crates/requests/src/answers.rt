@@ -1,14 +1,31 @@
 // The answer of each entry, in words.
 ghost use Prim.Native.Nat.{_≤_, max};
+ghost use Rattle.output.specs.Room.{mostWaiting};
 use crate::DATA;
 use crate::OUT;
 use crate::fields::Entry;
 use crate::fields::Request;
+use figures::COUNT;
+use figures::COUNT_FIGURES;
+use figures::CountFigures;
+use figures::LENGTH;
+use figures::LINE_FIGURES;
+use figures::MARKER_COMPARISONS;
+use figures::MARKER_FIGURES;
+use figures::MARKER_WARNINGS;
+use figures::MARKER_WORDS;
+use figures::PLACE_FIGURES;
+use figures::START;
+use marker_store::COMPARISONS_ROOM;
+use marker_store::Counts;
+use marker_store::WARNINGS_ROOM;
 use output::ROOM;
 use output::put;
 use output::put_hex;
 use output::put_number;
 use output::put_text;
+use program_check::MAX_WORDS;
+use spans::LIST_NUMBERS;
 use wording::put_marker;
 use wording::put_parts;
 use wording::put_refused;
@@ -18,14 +35,14 @@ use wording::put_spans;
 const BEFORE: u8 = 170;
 
 pub fn put_bad(buf: &mut [u8; ROOM], at: usize) -> usize
-    ensures { λ r. ⌜ r ≤ max at 65537 ⌝ }
+    ensures { λ r. ⌜ r ≤ max at mostWaiting ⌝ }
 {
     put_text(buf, at, b"bad request")
 }
 
 // A number of 0 is no refusal.
 fn put_verdict(buf: &mut [u8; ROOM], at: usize, number: u8, start: usize, len: usize) -> usize
-    ensures { λ r. ⌜ r ≤ max at 65537 ⌝ }
+    ensures { λ r. ⌜ r ≤ max at mostWaiting ⌝ }
 {
     if number == 0 {
         put_text(buf, at, b"ok")
@@ -35,14 +52,14 @@ fn put_verdict(buf: &mut [u8; ROOM], at: usize, number: u8, start: usize, len: u
 }
 
 fn put_line(text: &[u8], buf: &mut [u8; ROOM], at: usize) -> usize
-    ensures { λ r. ⌜ r ≤ max at 65537 ⌝ }
+    ensures { λ r. ⌜ r ≤ max at mostWaiting ⌝ }
 {
-    let mut figures = [0usize; 12];
-    let mut extras = [0usize; 64];
-    let mut specifiers = [0usize; 64];
-    let mut comparisons = [0usize; 320];
-    let mut warnings = [0usize; 192];
-    let mut words = [0u8; 127];
+    let mut figures = [0usize; LINE_FIGURES];
+    let mut extras = [0usize; LIST_NUMBERS];
+    let mut specifiers = [0usize; LIST_NUMBERS];
+    let mut comparisons = [0usize; COMPARISONS_ROOM];
+    let mut warnings = [0usize; WARNINGS_ROOM];
+    let mut words = [0u8; MAX_WORDS];
     let number = gateway::hulmisker_line(
         text,
         &mut figures,
@@ -53,7 +70,7 @@ fn put_line(text: &[u8], buf: &mut [u8; ROOM], at: usize) -> usize
         &mut words,
     );
     if 0 < number {
-        return put_refused(buf, at, number, figures[0], figures[1]);
+        return put_refused(buf, at, number, figures[START], figures[LENGTH]);
     }
     let n = put_text(buf, at, b"ok ");
     put_parts(
@@ -69,24 +86,24 @@ fn put_line(text: &[u8], buf: &mut [u8; ROOM], at: usize) -> usize
 }
 
 fn put_extras(text: &[u8], buf: &mut [u8; ROOM], at: usize) -> usize
-    ensures { λ r. ⌜ r ≤ max at 65537 ⌝ }
+    ensures { λ r. ⌜ r ≤ max at mostWaiting ⌝ }
 {
-    let mut figures = [0usize; 3];
-    let mut extras = [0usize; 64];
+    let mut figures = [0usize; COUNT_FIGURES];
+    let mut extras = [0usize; LIST_NUMBERS];
     let number = gateway::hulmisker_extras(text, &mut figures, &mut extras);
     if 0 < number {
-        return put_refused(buf, at, number, figures[0], figures[1]);
+        return put_refused(buf, at, number, figures[START], figures[LENGTH]);
     }
-    put_spans(buf, at, b"ok extras=", &extras, figures[2])
+    put_spans(buf, at, b"ok extras=", &extras, figures[COUNT])
 }
 
 fn put_marker_alone(text: &[u8], buf: &mut [u8; ROOM], at: usize) -> usize
-    ensures { λ r. ⌜ r ≤ max at 65537 ⌝ }
+    ensures { λ r. ⌜ r ≤ max at mostWaiting ⌝ }
 {
-    let mut figures = [0usize; 5];
-    let mut comparisons = [0usize; 320];
-    let mut warnings = [0usize; 192];
-    let mut words = [0u8; 127];
+    let mut figures = [0usize; MARKER_FIGURES];
+    let mut comparisons = [0usize; COMPARISONS_ROOM];
+    let mut warnings = [0usize; WARNINGS_ROOM];
+    let mut words = [0u8; MAX_WORDS];
     let number = gateway::hulmisker_marker(
         text,
         &mut figures,
@@ -95,35 +112,39 @@ fn put_marker_alone(text: &[u8], buf: &mut [u8; ROOM], at: usize) -> usize
         &mut words,
     );
     if 0 < number {
-        return put_refused(buf, at, number, figures[0], figures[1]);
+        return put_refused(buf, at, number, figures[START], figures[LENGTH]);
     }
     let n = put_text(buf, at, b"ok");
-    let counts = [figures[2], figures[3], figures[4]];
+    let counts = Counts {
+        kept: figures[MARKER_COMPARISONS],
+        warned: figures[MARKER_WARNINGS],
+        words: figures[MARKER_WORDS],
+    };
     put_marker(buf, n, &comparisons, &warnings, &words, counts)
 }
 
 fn put_version(text: &[u8], buf: &mut [u8; ROOM], at: usize) -> usize
-    ensures { λ r. ⌜ r ≤ max at 65537 ⌝ }
+    ensures { λ r. ⌜ r ≤ max at mostWaiting ⌝ }
 {
-    let mut figures = [0usize; 2];
+    let mut figures = [0usize; PLACE_FIGURES];
     let number = gateway::hulmisker_version(text, &mut figures);
-    put_verdict(buf, at, number, figures[0], figures[1])
+    put_verdict(buf, at, number, figures[START], figures[LENGTH])
 }
 
 fn put_pattern(text: &[u8], buf: &mut [u8; ROOM], at: usize) -> usize
-    ensures { λ r. ⌜ r ≤ max at 65537 ⌝ }
+    ensures { λ r. ⌜ r ≤ max at mostWaiting ⌝ }
 {
-    let mut figures = [0usize; 2];
+    let mut figures = [0usize; PLACE_FIGURES];
     let number = gateway::hulmisker_pattern(text, &mut figures);
-    put_verdict(buf, at, number, figures[0], figures[1])
+    put_verdict(buf, at, number, figures[START], figures[LENGTH])
 }
 
 fn put_specifier(text: &[u8], buf: &mut [u8; ROOM], at: usize) -> usize
-    ensures { λ r. ⌜ r ≤ max at 65537 ⌝ }
+    ensures { λ r. ⌜ r ≤ max at mostWaiting ⌝ }
 {
-    let mut figures = [0usize; 2];
+    let mut figures = [0usize; PLACE_FIGURES];
     let number = gateway::hulmisker_specifier(text, &mut figures);
-    put_verdict(buf, at, number, figures[0], figures[1])
+    put_verdict(buf, at, number, figures[START], figures[LENGTH])
 }
 
 fn fill(out: &mut [u8; OUT], room: usize) {
@@ -134,7 +155,7 @@ fn fill(out: &mut [u8; OUT], room: usize) {
     }
 }
 
-fn normalise_into(name: &[u8], out: &mut [u8], room: usize, figures: &mut [usize; 3]) -> u8 {
+fn normalise_into(name: &[u8], out: &mut [u8], room: usize, figures: &mut CountFigures) -> u8 {
     if room <= out.len() {
         gateway::hulmisker_normalise(name, &mut out[..room], figures)
     } else {
@@ -142,12 +163,17 @@ fn normalise_into(name: &[u8], out: &mut [u8], room: usize, figures: &mut [usize
     }
 }
 
-fn normalise_front(name: &[u8], out: &mut [u8; OUT], room: usize, figures: &mut [usize; 3]) -> u8 {
+fn normalise_front(
+    name: &[u8],
+    out: &mut [u8; OUT],
+    room: usize,
+    figures: &mut CountFigures,
+) -> u8 {
     normalise_into(name, out, room, figures)
 }
 
 fn put_bytes(buf: &mut [u8; ROOM], at: usize, out: &[u8; OUT], room: usize) -> usize
-    ensures { λ r. ⌜ r ≤ max at 65537 ⌝ }
+    ensures { λ r. ⌜ r ≤ max at mostWaiting ⌝ }
 {
     let mut n = at;
     let mut i: usize = 0;
@@ -160,7 +186,7 @@ fn put_bytes(buf: &mut [u8; ROOM], at: usize, out: &[u8; OUT], room: usize) -> u
 
 // The first bytes of an output, `-` for none.
 fn put_out(buf: &mut [u8; ROOM], at: usize, out: &[u8; OUT], room: usize) -> usize
-    ensures { λ r. ⌜ r ≤ max at 65537 ⌝ }
+    ensures { λ r. ⌜ r ≤ max at mostWaiting ⌝ }
 {
     let n = put_text(buf, at, b" out=");
     if room == 0 {
@@ -177,22 +203,22 @@ fn put_normalised(
     buf: &mut [u8; ROOM],
     at: usize,
 ) -> usize
-    ensures { λ r. ⌜ r ≤ max at 65537 ⌝ }
+    ensures { λ r. ⌜ r ≤ max at mostWaiting ⌝ }
 {
     if OUT < room {
         return put_bad(buf, at);
     }
     fill(out, room);
-    let mut figures = [0usize; 3];
+    let mut figures = [0usize; COUNT_FIGURES];
     let number = normalise_front(name, out, room, &mut figures);
-    let n = put_verdict(buf, at, number, figures[0], figures[1]);
-    let n = put_length(buf, n, number, figures[2]);
+    let n = put_verdict(buf, at, number, figures[START], figures[LENGTH]);
+    let n = put_length(buf, n, number, figures[COUNT]);
     put_out(buf, n, out, room)
 }
 
 // The length of a normal form, where there is one.
 fn put_length(buf: &mut [u8; ROOM], at: usize, number: u8, len: usize) -> usize
-    ensures { λ r. ⌜ r ≤ max at 65537 ⌝ }
+    ensures { λ r. ⌜ r ≤ max at mostWaiting ⌝ }
 {
     if 0 < number {
         return at;
@@ -202,15 +228,15 @@ fn put_length(buf: &mut [u8; ROOM], at: usize, number: u8, len: usize) -> usize
 }
 
 fn put_checked(program: &[u8], count: u64, buf: &mut [u8; ROOM], at: usize) -> usize
-    ensures { λ r. ⌜ r ≤ max at 65537 ⌝ }
+    ensures { λ r. ⌜ r ≤ max at mostWaiting ⌝ }
 {
-    let mut figures = [0usize; 2];
+    let mut figures = [0usize; PLACE_FIGURES];
     let number = gateway::hulmisker_check(program, count as usize, &mut figures);
-    put_verdict(buf, at, number, figures[0], figures[1])
+    put_verdict(buf, at, number, figures[START], figures[LENGTH])
 }
 
 fn put_yes_no(buf: &mut [u8; ROOM], at: usize, answer: usize) -> usize
-    ensures { λ r. ⌜ r ≤ max at 65537 ⌝ }
+    ensures { λ r. ⌜ r ≤ max at mostWaiting ⌝ }
 {
     if answer == 0 {
         put_text(buf, at, b"ok no")
@@ -220,14 +246,14 @@ fn put_yes_no(buf: &mut [u8; ROOM], at: usize, answer: usize) -> usize
 }
 
 fn put_run(program: &[u8], count: u64, assignment: u64, buf: &mut [u8; ROOM], at: usize) -> usize
-    ensures { λ r. ⌜ r ≤ max at 65537 ⌝ }
+    ensures { λ r. ⌜ r ≤ max at mostWaiting ⌝ }
 {
-    let mut figures = [0usize; 3];
+    let mut figures = [0usize; COUNT_FIGURES];
     let number = gateway::hulmisker_run(program, count as usize, assignment, &mut figures);
     if 0 < number {
-        return put_refused(buf, at, number, figures[0], figures[1]);
+        return put_refused(buf, at, number, figures[START], figures[LENGTH]);
     }
-    put_yes_no(buf, at, figures[2])
+    put_yes_no(buf, at, figures[COUNT])
 }
 
 // The answer on the bytes that the request spelled.
@@ -238,7 +264,7 @@ fn put_entry(
     buf: &mut [u8; ROOM],
     at: usize,
 ) -> usize
-    ensures { λ r. ⌜ r ≤ max at 65537 ⌝ }
+    ensures { λ r. ⌜ r ≤ max at mostWaiting ⌝ }
 {
     let entry = request.entry;
     match entry {
@@ -262,7 +288,7 @@ fn put_front(
     buf: &mut [u8; ROOM],
     at: usize,
 ) -> usize
-    ensures { λ r. ⌜ r ≤ max at 65537 ⌝ }
+    ensures { λ r. ⌜ r ≤ max at mostWaiting ⌝ }
 {
     let len = request.len;
     if data.len() < len {
@@ -278,7 +304,7 @@ pub fn put_answer(
     buf: &mut [u8; ROOM],
     at: usize,
 ) -> usize
-    ensures { λ r. ⌜ r ≤ max at 65537 ⌝ }
+    ensures { λ r. ⌜ r ≤ max at mostWaiting ⌝ }
 {
     put_front(request, data, out, buf, at)
 }

@@ -2,7 +2,7 @@
 ghost use Prim.Native.Nat.{_≤_};
 use crate::DATA;
 use crate::MOST;
-use text::Cursor;
+use cursor::Cursor;
 use text::byte_at;
 use text::word_at;
 

@@ -1,5 +1,6 @@
-// The protocol of the program `probe`: one request line in, one answer out. docs/DECISIONS.md says what a request is.
+// The protocol of `probe`: one request line in, one answer out. docs/DECISIONS.md says what a request is.
 ghost use Prim.Native.Nat.{_≤_, max};
+ghost use Rattle.output.specs.Room.{mostWaiting};
 
 mod answers;
 mod fields;
@@ -27,7 +28,7 @@ fn answer_front(
     buf: &mut [u8; ROOM],
     at: usize,
 ) -> usize
-    ensures { λ r. ⌜ r ≤ max at 65537 ⌝ }
+    ensures { λ r. ⌜ r ≤ max at mostWaiting ⌝ }
 {
     if MOST < len {
         return put_bad(buf, at);
@@ -49,7 +50,7 @@ pub fn answer(
     buf: &mut [u8; ROOM],
     at: usize,
 ) -> usize
-    ensures { λ r. ⌜ r ≤ max at 65537 ⌝ }
+    ensures { λ r. ⌜ r ≤ max at mostWaiting ⌝ }
 {
     answer_front(line, len, data, out, buf, at)
 }

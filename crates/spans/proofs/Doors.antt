@@ -4,17 +4,18 @@ use mathlib.Core.List.{List}
 use Prim.Native.Nat.{ℕ, _≤_}
 use native.Mathlib.Omega.{arith}
 use lib.ListN.{length, replicate}
-use Rattle.text.specs.Answer.{Answer, good, refused}
-use Rattle.text.specs.Refusal.{given}
-use Rattle.text.specs.declared.cursor.Cursor.{Cursor}
-use Rattle.text.specs.declared.refusal.Refusal.{Refusal}
-use Rattle.spans.proofs.Arrays.{load-over}
-use Rattle.spans.specs.Flat.{over, loaded}
-use Rattle.spans.specs.Reading.{Reading, spansIn, outcome, onGood, listIn, counted, told}
+use Rattle.refusal.specs.Answer.{Answer, good, refused, onGood}
+use Rattle.refusal.specs.Refusal.{given}
+use Rattle.cursor.specs.declared.cursor.Cursor.{Cursor}
+use Rattle.refusal.specs.declared.fault.Refusal.{Refusal}
+use Rattle.spans.proofs.Arrays.{load-onto}
+use Rattle.spans.specs.Flat.{spansOnto, loaded, listNumbers}
+use Rattle.cursor.specs.Limits.{maxList}
+use Rattle.spans.specs.Listing.{Listing, spansIn, outcome, listIn, counted, told}
 use Rattle.spans.specs.declared.item.Listed.{Listed}
 use Rattle.spans.specs.declared.item.Listed.the-variants.{Read, Refused}
 
-module _ (r : Reading) (k : Listed) (made : told k ≡ counted r) where
+module _ (r : Listing) (k : Listed) (made : told k ≡ counted r) where
   module _ (n : ℕ) (next : Cursor) (e : k ≡ Read n next) where
     both : (outcome r ≡ good (next .at)) × (n ≡ length (spansIn r))
     both = go (outcome r) (sym (ap told e) ∙ made)
@@ -32,11 +33,11 @@ module _ (r : Reading) (k : Listed) (made : told k ≡ counted r) where
     pub read-list : listIn r ≡ good (spansIn r)
     read-list = rw read-next
 
-    pub read-few : length (spansIn r) ≤ 32 → n ≤ 32
+    pub read-few : length (spansIn r) ≤ maxList → n ≤ maxList
     read-few h = rw read-count h
 
-    pub read-loaded : (list : List ℕ) → length (spansIn r) ≤ 32 → list ≡ over (spansIn r) (replicate 64 0) → loaded n list ≡ spansIn r
-    read-loaded list few f = rw (f, read-count) (load-over (spansIn r) (replicate 64 0) (omega arith))
+    pub read-loaded : (list : List ℕ) → length (spansIn r) ≤ maxList → list ≡ spansOnto (spansIn r) (replicate listNumbers 0) → loaded n list ≡ spansIn r
+    read-loaded list few f = rw (f, read-count) (load-onto (spansIn r) (replicate listNumbers 0) (omega arith))
 
   module _ (why : Refusal) (e : k ≡ Refused why) where
     refused-next : outcome r ≡ given why

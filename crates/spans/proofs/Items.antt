@@ -1,13 +1,13 @@
 -- An item that the code made is the definition's. Assumes nothing.
 use mathlib.Core.Path.{_≡_}
 use Prim.Native.Nat.{ℕ}
-use Rattle.text.proofs.Laws.{scan}
-use Rattle.text.specs.Cursor.{cursor}
-use Rattle.text.specs.Refusal.{refusal}
-use Rattle.text.specs.declared.cursor.Cursor.{Cursor}
-use Rattle.text.specs.declared.refusal.Fault.{Fault}
-use Rattle.text.specs.declared.refusal.Refusal.{Refusal}
-use Rattle.text.specs.declared.refusal.Span.{Span}
+use Rattle.cursor.proofs.Laws.{scan}
+use Rattle.cursor.specs.Cursor.{cursor}
+use Rattle.refusal.specs.Refusal.{refusal}
+use Rattle.cursor.specs.declared.cursor.Cursor.{Cursor}
+use Rattle.refusal.specs.declared.fault.Fault.{Fault}
+use Rattle.refusal.specs.declared.fault.Refusal.{Refusal}
+use Rattle.refusal.specs.declared.place.Span.{Span}
 use Rattle.spans.specs.declared.item.Item.the-variants.{One, Refused}
 
 pub one-is : (x y : Span) (next : Cursor) (at : ℕ) → x ≡ y → next .at ≡ at → One x next ≡ One y (cursor at)

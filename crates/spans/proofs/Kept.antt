@@ -6,15 +6,17 @@ use Prim.Native.Nat.{ℕ, zero, suc, _+_, _-_, _≤_, _<_, zero-le, suc-le-suc}
 use native.Mathlib.Omega.{arith}
 use lib.ListN.{length, length-append}
 use lib.Seq.{append-snoc}
-use Rattle.text.specs.Answer.{good}
-use Rattle.text.specs.Refusal.{given}
-use Rattle.text.specs.declared.cursor.Cursor.{Cursor}
-use Rattle.text.specs.declared.refusal.Fault.{Fault}
-use Rattle.text.specs.declared.refusal.Refusal.{Refusal}
-use Rattle.text.specs.declared.refusal.Span.{Span}
+use Rattle.arrays.specs.Front.{onto}
+use Rattle.refusal.specs.Answer.{good}
+use Rattle.refusal.specs.Refusal.{given}
+use Rattle.cursor.specs.declared.cursor.Cursor.{Cursor}
+use Rattle.refusal.specs.declared.fault.Fault.{Fault}
+use Rattle.refusal.specs.declared.fault.Refusal.{Refusal}
+use Rattle.refusal.specs.declared.place.Span.{Span}
 use Rattle.spans.proofs.Arrays.{store-one}
-use Rattle.spans.specs.Flat.{flat, write, over, stored}
-use Rattle.spans.specs.Reading.{Reading, then, ends, fails, follow, listFrom, spansIn, outcome, counted}
+use Rattle.spans.specs.Flat.{flat, spansOnto, stored}
+use Rattle.cursor.specs.Limits.{maxList}
+use Rattle.spans.specs.Listing.{Listing, then, ends, fails, follow, listFrom, spansIn, outcome, counted}
 use Rattle.spans.specs.declared.item.Item.{Item}
 use Rattle.spans.specs.declared.item.Item.the-variants.{One, End, Refused}
 
@@ -35,24 +37,24 @@ list-few many item (suc k) fresh at = go (list-few many item k false) (item fres
     go again (Refused why) = zero-le
 
 -- of `all` the spans `done`, n of them, stand at the front of an array that held `old`, and `rest` is the reading of what is left
-pub record Kept (all rest : Reading) (old list : List ℕ) (n : ℕ) : Type 0 where
+pub record Kept (all rest : Listing) (old list : List ℕ) (n : ℕ) : Type 0 where
   pub done : List Span
   pub whole : done ++ spansIn rest ≡ spansIn all
   pub end : outcome rest ≡ outcome all
   pub count : length done ≡ n
-  pub array : list ≡ over done old
+  pub array : list ≡ spansOnto done old
 
-pub kept-start : (all : Reading) (old : List ℕ) → Kept all all old old 0
-unfolding flat write
+pub kept-start : (all : Listing) (old : List ℕ) → Kept all all old old 0
+unfolding flat onto
 kept-start all old = record { done = []; whole = refl; end = refl; count = refl; array = refl }
 
 -- what the code answers, and what stands in the array, where the reading ends
-module _ (all rest : Reading) (old list : List ℕ) (n : ℕ) (inv : Kept all rest old list n) where
+module _ (all rest : Listing) (old list : List ℕ) (n : ℕ) (inv : Kept all rest old list n) where
   all-read : spansIn rest ≡ [] → inv .done ≡ spansIn all
   all-read e = sym (append-nil (inv .done)) ∙ sym (ap (λ (l : List Span). inv .done ++ l) e) ∙ inv .whole
 
-  kept-array : spansIn rest ≡ [] → list ≡ over (spansIn all) old
-  kept-array e = inv .array ∙ ap (λ (l : List Span). over l old) (all-read e)
+  kept-array : spansIn rest ≡ [] → list ≡ spansOnto (spansIn all) old
+  kept-array e = inv .array ∙ ap (λ (l : List Span). spansOnto l old) (all-read e)
 
   kept-good : (at : ℕ) → rest ≡ ends at → good (n, at) ≡ counted all
   unfolding outcome spansIn
@@ -85,45 +87,45 @@ module _ (many : Fault) (item : Bool → ℕ → Item) (fresh : Bool) (at : ℕ)
   read-refused zero why e = rw (← told, e)
   read-refused (suc k) why e = rw (← told, e)
 
-  module _ (all : Reading) (old list : List ℕ) (n : ℕ) (inv : Kept all (listFrom many item (32 - n) fresh at) old list n) where
-    pub kept-one : (x : Span) (next : Cursor) (now : List ℕ) → n < 32 → i ≡ One x next → now ≡ stored list n x → Kept all (listFrom many item (32 - (n + 1)) false (next .at)) old now (n + 1)
+  module _ (all : Listing) (old list : List ℕ) (n : ℕ) (inv : Kept all (listFrom many item (maxList - n) fresh at) old list n) where
+    pub kept-one : (x : Span) (next : Cursor) (now : List ℕ) → n < maxList → i ≡ One x next → now ≡ stored list n x → Kept all (listFrom many item (maxList - (n + 1)) false (next .at)) old now (n + 1)
     unfolding outcome spansIn
     kept-one x next now h e made =
-        let k : 32 - n ≡ suc (32 - (n + 1)) = omega arith in
-        let r = ap (λ (m : ℕ). listFrom many item m fresh at) k ∙ read-one (32 - (n + 1)) x next e in
+        let k : maxList - n ≡ suc (maxList - (n + 1)) = omega arith in
+        let r = ap (λ (m : ℕ). listFrom many item m fresh at) k ∙ read-one (maxList - (n + 1)) x next e in
         record {
           done = inv .done ++ (x ∷ []);
           whole = append-snoc (inv .done) x _ ∙ ap (λ (l : List Span). inv .done ++ l) (sym (ap spansIn r)) ∙ inv .whole;
           end = sym (ap outcome r) ∙ inv .end;
           count = omega (arith, length-append (inv .done) (x ∷ []), inv .count);
-          array = made ∙ ap (λ (l : List ℕ). stored l n x) (inv .array) ∙ ap (λ (m : ℕ). stored (over (inv .done) old) m x) (sym (inv .count)) ∙ store-one (inv .done) x old;
+          array = made ∙ ap (λ (l : List ℕ). stored l n x) (inv .array) ∙ ap (λ (m : ℕ). stored (spansOnto (inv .done) old) m x) (sym (inv .count)) ∙ store-one (inv .done) x old;
         }
 
-    module _ (x : Span) (next : Cursor) (h : 32 ≤ n) (e : i ≡ One x next) where
-      too-many : listFrom many item (32 - n) fresh at ≡ fails (record { fault = many; span = x })
-      too-many = let z : 32 - n ≡ 0 = omega arith in ap (λ (m : ℕ). listFrom many item m fresh at) z ∙ read-many x next e
+    module _ (x : Span) (next : Cursor) (h : maxList ≤ n) (e : i ≡ One x next) where
+      too-many : listFrom many item (maxList - n) fresh at ≡ fails (record { fault = many; span = x })
+      too-many = let z : maxList - n ≡ 0 = omega arith in ap (λ (m : ℕ). listFrom many item m fresh at) z ∙ read-many x next e
 
       pub many-answer : given (record { fault = many; span = x }) ≡ counted all
       many-answer = kept-fails all _ old list n inv _ too-many
 
-      pub many-array : list ≡ over (spansIn all) old
+      pub many-array : list ≡ spansOnto (spansIn all) old
       unfolding spansIn
       many-array = kept-array all _ old list n inv (ap spansIn too-many)
 
     module _ (next : Cursor) (e : i ≡ End next) where
       pub end-answer : good (n, next .at) ≡ counted all
-      end-answer = kept-good all _ old list n inv (next .at) (read-end (32 - n) next e)
+      end-answer = kept-good all _ old list n inv (next .at) (read-end (maxList - n) next e)
 
-      pub end-array : list ≡ over (spansIn all) old
+      pub end-array : list ≡ spansOnto (spansIn all) old
       unfolding spansIn
-      end-array = kept-array all _ old list n inv (ap spansIn (read-end (32 - n) next e))
+      end-array = kept-array all _ old list n inv (ap spansIn (read-end (maxList - n) next e))
 
     module _ (why : Refusal) (e : i ≡ Refused why) where
       pub refused-answer : given why ≡ counted all
-      refused-answer = kept-fails all _ old list n inv why (read-refused (32 - n) why e)
+      refused-answer = kept-fails all _ old list n inv why (read-refused (maxList - n) why e)
 
-      pub refused-array : list ≡ over (spansIn all) old
+      pub refused-array : list ≡ spansOnto (spansIn all) old
       unfolding spansIn
-      refused-array = kept-array all _ old list n inv (ap spansIn (read-refused (32 - n) why e))
+      refused-array = kept-array all _ old list n inv (ap spansIn (read-refused (maxList - n) why e))
 
 pub ruleset kept = (kept-start, kept-one, many-answer, many-array, end-answer, end-array, refused-answer, refused-array)

@@ -1,10 +1,10 @@
 -- The contract in document 01's terms leaves one answer. Assumes nothing.
 use mathlib.Core.Path.{_≡_, ap}
 use Prim.Native.Nat.{ℕ}
-use Rattle.text.proofs.Numbers.{given-own}
-use Rattle.text.specs.Cursor.{cursor}
-use Rattle.text.specs.Refusal.{given}
-use Rattle.spans.specs.Reading.{told}
+use Rattle.refusal.proofs.Numbers.{given-own}
+use Rattle.cursor.specs.Cursor.{cursor}
+use Rattle.refusal.specs.Refusal.{given}
+use Rattle.spans.specs.Listing.{told}
 use Rattle.spans.specs.declared.item.Listed.{Listed}
 use Rattle.spans.specs.declared.item.Listed.the-variants.{Read, Refused}
 

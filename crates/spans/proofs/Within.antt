@@ -3,11 +3,11 @@ use mathlib.Core.Path.{_≡_, refl}
 use mathlib.Core.Bool.{Bool, true, false, cond}
 use Prim.Native.Nat.{ℕ, zero, suc, _≤_}
 use native.Mathlib.Omega.{arith}
-use Rattle.text.specs.Answer.{good}
-use Rattle.text.specs.Refusal.{given}
-use Rattle.text.specs.declared.refusal.Fault.{Fault}
-use Rattle.text.specs.declared.refusal.Refusal.{Refusal}
-use Rattle.spans.specs.Reading.{Reading, then, ends, fails, follow, listFrom, outcome}
+use Rattle.refusal.specs.Answer.{good}
+use Rattle.refusal.specs.Refusal.{given}
+use Rattle.refusal.specs.declared.fault.Fault.{Fault}
+use Rattle.refusal.specs.declared.fault.Refusal.{Refusal}
+use Rattle.spans.specs.Listing.{Listing, then, ends, fails, follow, listFrom, outcome}
 use Rattle.spans.specs.declared.item.Item.{Item}
 use Rattle.spans.specs.declared.item.Item.the-variants.{One, End, Refused}
 
@@ -27,7 +27,7 @@ pub leaves-if : (low high : ℕ) (t : Bool) (x y : Item) → (t ≡ true → Lea
 leaves-if low high true x y f g = f refl
 leaves-if low high false x y f g = g refl
 
-abbrev pub Ends : ℕ → ℕ → Reading → Type 0
+abbrev pub Ends : ℕ → ℕ → Listing → Type 0
 Ends low high r = (e : ℕ) → outcome r ≡ good e → Between low high e
 
 pub ends-at : (low high e : ℕ) → Between low high e → Ends low high (ends e)
@@ -38,10 +38,10 @@ pub fails-ends : (low high : ℕ) (why : Refusal) → Ends low high (fails why)
 unfolding outcome given
 fails-ends low high why e h = let z : _≡_ {A = ℕ} 0 1 = cc in absurd (omega arith)
 
-pub ends-from : (low start high : ℕ) (r : Reading) → low ≤ start → Ends start high r → Ends low high r
+pub ends-from : (low start high : ℕ) (r : Listing) → low ≤ start → Ends start high r → Ends low high r
 ends-from low start high r l f e h = let b = f e h in record { from = omega (arith, b .from); to = b .to }
 
-pub ends-if : (low high : ℕ) (t : Bool) (x y : Reading) → (t ≡ true → Ends low high x) → (t ≡ false → Ends low high y) → Ends low high (cond t x y)
+pub ends-if : (low high : ℕ) (t : Bool) (x y : Listing) → (t ≡ true → Ends low high x) → (t ≡ false → Ends low high y) → Ends low high (cond t x y)
 ends-if low high true x y f g = f refl
 ends-if low high false x y f g = g refl
 

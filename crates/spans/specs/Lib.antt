@@ -1,2 +1,4 @@
+-- a list of spans in an array
 pub mod Flat
-pub mod Reading
+-- a list of spans as it is read, item by item
+pub mod Listing

@@ -1,7 +1,7 @@
 // What a reader of a list meets, and what it answers.
-use text::Cursor;
-use text::Refusal;
-use text::Span;
+use cursor::Cursor;
+use refusal::Refusal;
+use refusal::Span;
 
 pub enum Item {
     // A span of the list, and where its next item is read.

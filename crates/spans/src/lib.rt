@@ -4,6 +4,9 @@ mod store;
 
 pub use item::Item;
 pub use item::Listed;
+pub use store::LIST_NUMBERS;
+pub use store::SPAN_NUMBERS;
+pub use store::SpanNumbers;
 pub use store::copy;
 pub use store::gather;
 pub use store::put;

@@ -1,5 +1,5 @@
 -- The laws of `skip`, which answer every scan's loop, here and in the crates above. Assumes nothing.
-use mathlib.Core.Path.{_≡_, sym, ap, _∙_}
+use mathlib.Core.Path.{_≡_, sym, _∙_}
 use mathlib.Core.Bool.{Bool, true, false}
 use mathlib.Core.List.{List}
 use Prim.Native.Nat.{ℕ, _+_, _-_, _≤_, _<_}
@@ -8,13 +8,7 @@ use native.Mathlib.Numerals.{add-one}
 use lib.ListN.{length, getD, drop-of-length-le, List·getD-eq-default}
 use lib.Seq.{drop-cons}
 use Rattle.text.proofs.Cases.{cases}
-use Rattle.text.specs.Answer.{refused}
-use Rattle.text.specs.Cursor.{cursor}
-use Rattle.text.specs.Refusal.{refusal, given, faultNumber}
 use Rattle.text.specs.Scan.{run, skip, byteAt}
-use Rattle.text.specs.declared.cursor.Cursor.{Cursor}
-use Rattle.text.specs.declared.refusal.Fault.{Fault}
-use Rattle.text.specs.declared.refusal.Refusal.{Refusal}
 
 module _ {A : Type 0} (p : A → Bool) (s : List A) (at : ℕ) where
   -- an element of the class belongs to the run
@@ -62,13 +56,4 @@ past-end s at h = sym (List·getD-eq-default s 0 h)
 pub run-start : (p : ℕ → Bool) (s : List ℕ) (from to : ℕ) → from ≡ 0 → to ≡ skip p s from → to ≡ run p s
 run-start p s from to e f = rw (f, e, skip-start)
 
--- a cursor is its place
-pub cursor-is : (c : Cursor) (n : ℕ) → c .at ≡ n → c ≡ cursor n
-cursor-is c n e = ap cursor e
-
--- a refusal that the code made, in document 01's terms
-pub given-is : {A : Type 0} (why : Refusal) (f : Fault) (a b n m : ℕ) → why ≡ refusal f a n → a ≡ b → faultNumber f ≡ m → given {A = A} why ≡ refused m b n
-unfolding given
-given-is why f a b n m made e number = rw (made, e, number)
-
-pub ruleset scan = (turn, stopped, ended, past-end, run-start, cursor-is, given-is, cases)
+pub ruleset runs = (turn, stopped, ended, past-end, run-start, cases)

@@ -10,9 +10,9 @@ use lib.Dec.{eqb}
 use lib.ListN.{length, take, drop, getD, drop-of-length-le}
 use lib.Seq.{drop-cons}
 use Rattle.text.proofs.Cases.{both}
-use Rattle.text.proofs.Laws.{scan}
+use Rattle.text.proofs.Laws.{runs}
 use Rattle.text.specs.Word.{beginsBy, begins, spells}
-use Rattle.text.specs.declared.refusal.Span.{Span}
+use Rattle.refusal.specs.declared.place.Span.{Span}
 
 -- the loop that compares: `e` is the answer, which a turn keeps; `r` is the test that the code made
 module _ (alike : ℕ → ℕ → Bool) (w s : List ℕ) (i at : ℕ) (e : Bool) (inv : beginsBy alike (drop i w) (drop at s) ≡ e) where
@@ -41,7 +41,7 @@ module _ (m n : ℕ) (t : Bool) where
   pub length-other : (m ≡ n → ⊥) → false ≡ (eqb m n && t)
   length-other e = rw (ne-eqb m n e)
 
-pub ruleset word = (length-same, length-other, word-end, word-short, word-differs, word-turn, scan)
+pub ruleset spelling = (length-same, length-other, word-end, word-short, word-differs, word-turn, runs)
 
 -- a text begins with a word exactly if its first bytes are the word
 pub begins-word : (w s : List ℕ) → begins w s ≡ true → take (length w) s ≡ w

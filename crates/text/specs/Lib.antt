@@ -1,7 +1,6 @@
-pub mod Answer
-pub mod Check
+-- the byte classes
 pub mod Class
-pub mod Cursor
-pub mod Refusal
+-- how far a run of one class goes, and the byte at a place
 pub mod Scan
+-- a fixed byte string against a part of a line
 pub mod Word

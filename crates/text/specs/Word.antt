@@ -7,7 +7,7 @@ use mathlib.Core.Bool.{Bool, true, false, _&&_}
 use mathlib.Core.List.{List, [], _∷_}
 use lib.Dec.{eqb}
 use lib.ListN.{length, drop}
-use Rattle.text.specs.declared.refusal.Span.{Span}
+use Rattle.refusal.specs.declared.place.Span.{Span}
 
 -- a quoted ASCII text as its bytes
 abbrev pub bytes : String → List ℕ

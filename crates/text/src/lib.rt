@@ -1,13 +1,8 @@
-// What every reader above stands on: byte classes, places, refusals, the cursor with its scans, and the check that comes first.
-mod check;
+// Bytes of a line: their classes, what stands at a place, and fixed words.
 mod class;
-mod cursor;
 mod place;
-mod refusal;
 mod word;
 
-pub use check::Checked;
-pub use check::check_line;
 pub use class::is_alnum;
 pub use class::is_ascii;
 pub use class::is_bare_byte;
@@ -25,17 +20,9 @@ pub use class::is_space;
 pub use class::is_token_byte;
 pub use class::is_word_byte;
 pub use class::small_of;
-pub use cursor::Cursor;
-pub use cursor::Peek;
-pub use cursor::Step;
 pub use place::byte_at;
 pub use place::has;
 pub use place::separator_at;
 pub use place::separator_before;
-pub use refusal::ComparisonNumber;
-pub use refusal::Fault;
-pub use refusal::Offset;
-pub use refusal::Refusal;
-pub use refusal::Span;
 pub use word::spelled;
 pub use word::word_at;

@@ -10,12 +10,15 @@ use Prim.Native.Char.{code}
 use Prim.Native.String.{String}
 use Rattle.text.specs.Scan.{run, skip}
 use Rattle.text.specs.Word.{bytes, beginsBy}
-use Rattle.version.specs.Joined.{moreLen, more}
-use Rattle.version.specs.Layout.{epochLen, segmentLen, localLen, layout}
-use Rattle.version.specs.Number.{valueFrom, numberLen}
-use Rattle.version.specs.Part.{wordLen, partLen, postLen}
+use Rattle.version_parts.specs.Joined.{moreLen, more}
+use Rattle.version_parts.specs.Local.{segmentLen, localLen}
+use Rattle.version_number.specs.Number.{valueFrom, numberLen}
+use Rattle.version_parts.specs.Part.{wordLen, partLen, postLen}
+use Rattle.version_parts.specs.Release.{epochLen}
+use Rattle.version_operator.specs.Operator.{operatorAmong}
+use Rattle.version.specs.Layout.{layout}
 use Rattle.version.specs.Reading.{alpha, beta, candidate, numeric, lettered, Version, numbersFrom, pieces, reading}
-use Rattle.version.specs.Rules.{isVersion, isPattern, laterOperatorIn, operatorIn, goesWith, isSpecifier, allVersions, isVersionList}
+use Rattle.version.specs.Rules.{isVersion, isPattern, goesWith, isSpecifier, allVersions, isVersionList}
 
 abbrev pub good : List String
 good =
@@ -90,5 +93,5 @@ pub holds : (map (λ (s : String). isVersion (bytes s)) good ≡ map (λ (s : St
     × (map (λ e. isVersionList (bytes (e .0))) lists ≡ map (λ e. e .1) lists)
     × (map (λ e. reading (bytes (e .0))) readings ≡ map (λ e. e .1) readings)
     × (isVersion zeros ≡ true)
-unfolding run skip beginsBy moreLen more epochLen segmentLen localLen layout valueFrom numberLen wordLen partLen postLen numbersFrom pieces reading isVersion isPattern laterOperatorIn operatorIn goesWith isSpecifier allVersions isVersionList
+unfolding run skip beginsBy moreLen more epochLen segmentLen localLen layout valueFrom numberLen wordLen partLen postLen numbersFrom pieces reading isVersion isPattern operatorAmong goesWith isSpecifier allVersions isVersionList
 holds = (refl, refl, refl, refl, refl, refl, refl)

@@ -1,8 +1,5 @@
-pub mod Examples
-pub mod Joins
+-- The laws by which the functions of this crate are proved, and the worked examples.
 pub mod Layouts
-pub mod Lists
-pub mod Numbers
-pub mod Own
-pub mod Parts
 pub mod Specifiers
+pub mod Lists
+pub mod Examples

@@ -8,7 +8,8 @@ use borrow.Author.Tests.{not-true, not-false}
 use lib.ListN.{length, take, drop, getD, drop-of-length-le, take-append-drop, length-drop}
 use lib.Seq.{drop-cons, drop-drop, getD-take, getD-drop, length-take-le}
 use Rattle.text.proofs.Cases.{by-order}
-use Rattle.text.proofs.Laws.{scan, skip-on}
+use Rattle.cursor.proofs.Laws.{scan}
+use Rattle.text.proofs.Laws.{skip-on}
 use Rattle.text.proofs.Reach.{skip-in, skip-out, skip-from, skip-within, skip-again}
 use Rattle.text.specs.Class.{isSpace, isWordByte}
 use Rattle.text.specs.Scan.{run, skip, byteAt}

@@ -1,27 +1,22 @@
--- The laws of specifiers and of the three entries. Assumes nothing.
+-- The laws of specifiers. Assumes nothing.
 use mathlib.Core.Path.{_≡_}
-use mathlib.Core.Bool.{Bool, false, cond}
+use mathlib.Core.Bool.{Bool, false}
 use mathlib.Core.List.{List}
 use Prim.Native.Nat.{ℕ, _-_, _≤_}
 use native.Mathlib.Omega.{arith}
 use lib.ListN.{length, take, drop, length-drop}
 use lib.Seq.{take-all}
-use Rattle.text.proofs.Checks.{entry, checked-good}
 use Rattle.text.proofs.Reach.{skip-within}
-use Rattle.text.specs.Answer.{Answer, refused}
-use Rattle.text.specs.Check as Check
-use Rattle.text.specs.Check.{checked, passes}
 use Rattle.text.specs.Class.{isSpace, isOperatorByte}
-use Rattle.text.specs.Refusal.{span}
+use Rattle.refusal.specs.Refusal.{span, told}
 use Rattle.text.specs.Scan.{skip}
-use Rattle.text.specs.declared.check.Checked.{Checked}
-use Rattle.text.specs.declared.check.Checked.the-variants.{Good}
-use Rattle.text.specs.declared.refusal.Span.{Span}
+use Rattle.refusal.specs.declared.place.Span.{Span}
+use Rattle.version_operator.specs.Operator.{operatorIn}
 use Rattle.version.proofs.Layouts.{laid}
-use Rattle.version.specs.Rules.{operatorIn, goesWith, suitsToken, isSpecifier, judged}
-use Rattle.version.specs.declared.operator.Operator.{Operator}
-use Rattle.version.specs.declared.operator.Token.{Token}
-use Rattle.version.specs.declared.operator.Token.the-variants.{Known, Unknown}
+use Rattle.version.specs.Rules.{goesWith, suitsToken, isSpecifier}
+use Rattle.version_operator.specs.declared.operator.Operator.{Operator}
+use Rattle.version_operator.specs.declared.operator.Token.{Token}
+use Rattle.version_operator.specs.declared.operator.Token.the-variants.{Known, Unknown}
 
 -- a specifier, from where the code found its operator
 module _ (s : List ℕ) (start from to : ℕ) (first : start ≡ 0) (spaces : from ≡ skip isSpace s start) (operator : to ≡ skip isOperatorByte s from) where
@@ -45,8 +40,4 @@ module _ (token : Token) (s : List ℕ) where
   pub token-unknown : token ≡ Unknown → false ≡ suitsToken token s
   token-unknown e = rw e
 
--- an entry whose check passed, from its verdict
-pub judged-good : (s : List ℕ) (k : Checked) (ok b : Bool) (z : Answer (Unit {0})) → Check.told k ≡ checked s passes → k ≡ Good → ok ≡ b → z ≡ cond ok passes (refused 14 0 (length s)) → z ≡ judged b s
-judged-good s k ok b z made e same verdict = checked-good s k (cond b passes (refused 14 0 (length s))) made z e (rw (← same) verdict)
-
-pub ruleset asked = (specifier-is, operator-within, token-known, token-unknown, judged-good, entry, laid)
+pub ruleset asked = (specifier-is, operator-within, token-known, token-unknown, laid)

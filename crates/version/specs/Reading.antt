@@ -10,8 +10,8 @@ use lib.Seq.{slice}
 use Rattle.text.specs.Class.{isDigit, isSeparator, small}
 use Rattle.text.specs.Scan.{run, byteAt}
 use Rattle.version.specs.Layout.{layout, isVersionAt, isStarredAt}
-use Rattle.version.specs.Number.{value}
-use Rattle.version.specs.Part.{sepLen}
+use Rattle.version_number.specs.Number.{value}
+use Rattle.version_parts.specs.Part.{sepLen}
 use Rattle.version.specs.declared.layout.Layout.{Layout}
 
 -- a pre part's letter: `a` and `alpha`, `b` and `beta`, and the others

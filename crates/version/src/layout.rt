@@ -3,15 +3,15 @@ ghost use mathlib.Core.Path.{_≡_};
 ghost use Rattle.text.specs.Class.{isSpace};
 ghost use Rattle.text.specs.Scan.{skip};
 ghost use Rattle.version.specs.Layout.{layout};
-use crate::local::local_end;
-use crate::number::number_end;
-use crate::part::dev_end;
-use crate::part::post_end;
-use crate::part::pre_end;
-use crate::release::epoch_end;
-use crate::release::release_end;
-use crate::release::v_end;
-use text::Cursor;
+use cursor::Cursor;
+use version_number::number_end;
+use version_parts::dev_end;
+use version_parts::epoch_end;
+use version_parts::local_end;
+use version_parts::post_end;
+use version_parts::pre_end;
+use version_parts::release_end;
+use version_parts::v_end;
 
 // The place behind each part, in the order of the parts; a part that is not there ends where the one before it does.
 pub struct Layout {

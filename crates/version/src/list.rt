@@ -2,7 +2,7 @@
 ghost use mathlib.Core.Path.{_≡_};
 ghost use Rattle.version.specs.Rules.{isVersionList};
 use crate::rules::is_version;
-use text::Cursor;
+use cursor::Cursor;
 
 pub fn is_version_list(text: &[u8]) -> bool
     ensures { λ r. ⌜ r ≡ isVersionList (now (text .entry)) ⌝ }

@@ -4,12 +4,12 @@ ghost use Rattle.version.specs.Layout.{endsAt, isVersionAt, isStarredAt}
 ghost use Rattle.version.specs.Rules.{isVersion, isPattern, suits, goesWith, suitsToken, isSpecifier};
 use crate::layout::Layout;
 use crate::layout::read_layout;
-use crate::operator::Operator;
-use crate::operator::Token;
-use crate::operator::operator_in;
-use crate::operator::takes_of;
-use text::Cursor;
+use cursor::Cursor;
 use text::word_at;
+use version_operator::Operator;
+use version_operator::Token;
+use version_operator::operator_in;
+use version_operator::takes_of;
 
 // Whether only white space follows a place.
 fn ends_at(text: &[u8], at: usize) -> bool

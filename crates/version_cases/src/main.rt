@@ -1,9 +1,9 @@
-// Judges each text of the list on standard input against the answer that stands before it, and counts those that differ.
+// Offers each text of the list on standard input to its entry, holds it to the answer that stands before it, and counts those that differ.
 ghost use Prim.Native.Nat.{_≤_};
 ghost use lib.ListN.{length};
 use libc::STDIN_FILENO;
 use libc::STDOUT_FILENO;
-use version::Judged;
+use refusal::Outcome;
 
 struct Tally {
     cases: u64,
@@ -26,19 +26,19 @@ fn line_end(list: &[u8], from: usize) -> usize
     at
 }
 
-fn is_good(judged: Judged) -> bool {
-    match judged {
-        Judged::Good => true,
-        Judged::Refused(_) => false,
+fn is_good(found: Outcome) -> bool {
+    match found {
+        Outcome::Good => true,
+        Outcome::Refused(_) => false,
     }
 }
 
 // A text offered as what the letter says: a version, a pattern, and else a specifier.
 fn accepts(letter: u8, text: &[u8]) -> bool {
     match letter {
-        b'v' => is_good(version::version(text)),
-        b'p' => is_good(version::pattern(text)),
-        _ => is_good(version::specifier(text)),
+        b'v' => is_good(version_entry::version(text)),
+        b'p' => is_good(version_entry::pattern(text)),
+        _ => is_good(version_entry::specifier(text)),
     }
 }
 

@@ -22,10 +22,12 @@ use Rattle.version_language.proofs.Parts.{local, afterDev, afterPost, a
 use Rattle.version_language.proofs.Release.{EndsRelease, release-there, release-place}
 use Rattle.version_language.proofs.Whole.{run-whole, number-none, segment-whole, segment-there, more-first, joined-whole}
 use Rattle.version_language.specs.Appendix.{matches, all, _then_, spaces, segment, versionRegex, patternRegex}
-use Rattle.version.specs.Joined.{more}
-use Rattle.version.specs.Layout.{segmentLen, localLen, isDot, layout, endsAt, isStarredAt}
-use Rattle.version.specs.Number.{numberLen}
-use Rattle.version.specs.Part.{preLen, postLen, devLen}
+use Rattle.version_parts.specs.Joined.{more}
+use Rattle.version_parts.specs.Local.{segmentLen, localLen}
+use Rattle.version_parts.specs.Release.{isDot}
+use Rattle.version.specs.Layout.{layout, endsAt, isStarredAt}
+use Rattle.version_number.specs.Number.{numberLen}
+use Rattle.version_parts.specs.Part.{preLen, postLen, devLen}
 use Rattle.version.specs.Rules.{isVersion, isPattern}
 
 -- whitespace, or the end, is of no other class
@@ -77,7 +79,7 @@ release-no-item w k = go (isDot (byteAt w 0)) refl
     go true h = rw (opens-dot pres refl w (release-opens w k) h)
     go false h = refl
 
-parts-end : EndsRelease afterRelease
+pub parts-end : EndsRelease afterRelease
 parts-end = record {
   no-digit = release-not isDigit digit-ascii refl;
   no-mark = release-not (λ b. eqb b (code "!")) (λ b h. omega (arith, eqb-true b (code "!") h)) refl;
@@ -121,10 +123,10 @@ star-cut w m =
     let (t, e, k) = star-text w m in
     rw e (omega arith, k)
 
-star-ends : EndsRelease starred
+pub star-ends : EndsRelease starred
 star-ends = record { no-digit = star-not isDigit refl; no-mark = star-not (λ b. eqb b (code "!")) refl; no-item = star-no-item }
 
-star-accepted : (s : List ℕ) → matches (released starred) s → isStarredAt (layout s) s ≡ true
+pub star-accepted : (s : List ℕ) → matches (released starred) s → isStarredAt (layout s) s ≡ true
 star-accepted s m =
     let (room, k) = release-place star-ends s m in
     every _ _ _ (release-there star-ends s m) (star-begins (drop (layout s .release) s) k)

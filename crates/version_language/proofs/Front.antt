@@ -17,9 +17,9 @@ use Rattle.version_language.proofs.Parts.{labelled, preWord, postWord, 
 use Rattle.version_language.proofs.Whole.{number-whole, number-first, number-none}
 use Rattle.version_language.proofs.Words.{goesOn, clear, no-words, post-no-pre, Begins, pre-begins, post-begins, dev-begins}
 use Rattle.version_language.specs.Appendix.{Regex, matches, all, one, _then_, spaces, separator, number, post, dev}
-use Rattle.version.specs.Layout.{isDot}
-use Rattle.version.specs.Number.{numberLen}
-use Rattle.version.specs.Part.{sepLen, wordLen, preWords, postWords, devWords}
+use Rattle.version_parts.specs.Release.{isDot}
+use Rattle.version_number.specs.Number.{numberLen}
+use Rattle.version_parts.specs.Part.{sepLen, wordLen, preWords, postWords, devWords}
 
 -- the first byte, or the one behind a separator
 abbrev pub letter : List ℕ → ℕ

@@ -21,8 +21,8 @@ use Rattle.version_language.proofs.Parts.{preWord, postWord, devWord, a
 use Rattle.version_language.proofs.Whole.{number-whole, number-first, number-there, number-none}
 use Rattle.version_language.proofs.Words.{goesOn, pre-whole, post-whole, dev-whole, Begins, pre-begins, post-begins, dev-begins}
 use Rattle.version_language.specs.Appendix.{Regex, matches, all, one, opt, _then_, separator, number, pre, post, dev}
-use Rattle.version.specs.Number.{numberLen}
-use Rattle.version.specs.Part.{sepLen, wordLen, countLen, partLen, preWords, postWords, devWords, preLen, postLen, devLen}
+use Rattle.version_number.specs.Number.{numberLen}
+use Rattle.version_parts.specs.Part.{sepLen, wordLen, countLen, partLen, preWords, postWords, devWords, preLen, postLen, devLen}
 
 count-plain : (v : List ℕ) → isSeparator (byteAt v 0) ≡ false → countLen v ≡ numberLen v
 count-plain v h = rw h (zero-add (numberLen v))

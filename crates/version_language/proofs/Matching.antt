@@ -12,7 +12,7 @@ use Rattle.text.proofs.Cases.{both}
 use Rattle.text.specs.Class.{isDigit}
 use Rattle.text.specs.Scan.{run, byteAt}
 use Rattle.version_language.specs.Appendix.{Regex, matches, one, opt, _then_, all}
-use Rattle.version.specs.Number.{valueFrom}
+use Rattle.version_number.specs.Number.{valueFrom}
 
 -- a text cut at a place
 pub joined : (r q : Regex) (s : List ℕ) (n : ℕ) → matches r (take n s) → matches q (drop n s) → matches (r then q) s

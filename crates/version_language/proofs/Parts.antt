@@ -7,7 +7,7 @@ use native.Mathlib.Omega.{arith}
 use lib.ListN.{length, drop, length-append, length-drop}
 use lib.Seq.{drop-at, drop-drop}
 use Rattle.version_language.specs.Appendix.{Regex, matches, word, opt, _then_, _or_, many, sign, spaces, separator, number, segment, pre, post, dev}
-use Rattle.version.specs.Layout.{past}
+use Rattle.version_number.specs.Place.{past}
 
 -- a word with the Appendix's separators and number around it
 abbrev pub labelled : Regex → Regex
@@ -41,21 +41,25 @@ afterRelease = opt pre then afterPre
 abbrev pub starred : Regex
 starred = sign "." then sign "*" then spaces
 
--- a release from its first number, its epoch, its `v`, its whitespace on, and K behind it
+-- a release from its first number, its epoch, its `v`, its whitespace on, and L behind that number
+abbrev pub fromEpoch : Regex → Regex
+fromEpoch L = number then L
+
+abbrev pub fromStart : Regex → Regex
+fromStart L = opt (number then sign "!") then fromEpoch L
+
+abbrev pub fromV : Regex → Regex
+fromV L = opt (word "v") then fromStart L
+
+abbrev pub begun : Regex → Regex
+begun L = spaces then fromV L
+
+-- the numbers behind the first, and K behind them
 abbrev pub fromFirst : Regex → Regex
 fromFirst K = many (sign "." then number) then K
 
-abbrev pub fromEpoch : Regex → Regex
-fromEpoch K = number then fromFirst K
-
-abbrev pub fromStart : Regex → Regex
-fromStart K = opt (number then sign "!") then fromEpoch K
-
-abbrev pub fromV : Regex → Regex
-fromV K = opt (word "v") then fromStart K
-
 abbrev pub released : Regex → Regex
-released K = spaces then fromV K
+released K = begun (fromFirst K)
 
 -- `[-_\.]?([0-9]+)?` and K behind it
 abbrev pub counted : Regex → Regex

@@ -18,19 +18,22 @@ use Rattle.text.specs.Class.{isSpace, isDigit, isAlnum, isLetter, isSeparator, 
 use Rattle.text.specs.Scan.{run, skip, byteAt}
 use Rattle.text.specs.Word.{bytes, begins, beginsBy}
 use Rattle.version_language.proofs.Matching.{joined, joined-front, perhaps, one-front, opt-one-front, run-all, value-run, all-run, all-of, every}
-use Rattle.version_language.proofs.Parts.{labelled, preWord, postWord, devWord, local, afterDev, afterPost, afterPre, afterRelease, starred, fromFirst, fromEpoch, fromStart, fromV, released}
+use Rattle.version_language.proofs.Parts.{labelled, preWord, postWord, devWord, local, afterDev, afterRelease, starred, fromFirst, fromEpoch, fromStart, fromV, begun, released}
 use Rattle.version_language.specs.Appendix.{Regex, none, some, matches, all, one, word, opt, many, _then_, _or_, sign, spaces, separator, number, segment, bounded, pre, post, dev, versionRegex, patternRegex}
-use Rattle.version.specs.Joined.{moreLen, more}
-use Rattle.version.specs.Layout.{vLen, epochLen, segmentLen, localLen, isDot, past, layout, endsAt, hasRelease, isVersionAt, isStarredAt}
-use Rattle.version.specs.Number.{numberLen}
-use Rattle.version.specs.Part.{says, wordLen, sepLen, countLen, partLen, preWords, postWords, devWords, preLen, postLen, devLen}
+use Rattle.version_parts.specs.Joined.{moreLen, more}
+use Rattle.version_parts.specs.Local.{segmentLen, localLen}
+use Rattle.version_number.specs.Place.{past}
+use Rattle.version_parts.specs.Release.{vLen, epochLen, isDot}
+use Rattle.version.specs.Layout.{layout, endsAt, hasRelease, isVersionAt, isStarredAt}
+use Rattle.version_number.specs.Number.{numberLen}
+use Rattle.version_parts.specs.Part.{says, wordLen, sepLen, countLen, partLen, preWords, postWords, devWords, preLen, postLen, devLen}
 use Rattle.version.specs.Rules.{isVersion, isPattern}
 
 taken : (s : List ℕ) (n : ℕ) → n ≤ length s → 0 < n → ltb 0 (length (take n s)) ≡ true
 taken s n room there = rw (length-take-le n s room) (lt-ltb 0 n there)
 
 -- numbers
-number-front : (s : List ℕ) → 0 < numberLen s → matches number (take (numberLen s) s)
+pub number-front : (s : List ℕ) → 0 < numberLen s → matches number (take (numberLen s) s)
 unfolding numberLen
 number-front s there = go (bounded s) refl there
   where
@@ -74,7 +77,7 @@ module _ (X : Regex) (s : List ℕ) where
 
 -- a part with a word
 module _ (X : Regex) (words : List (List ℕ)) (found : (s : List ℕ) → 0 < wordLen words s → matches X (take (wordLen words s) s)) where
-  part-front : (s : List ℕ) → 0 < partLen words s → matches (labelled X) (take (partLen words s) s)
+  pub part-front : (s : List ℕ) → 0 < partLen words s → matches (labelled X) (take (partLen words s) s)
   unfolding partLen
   part-front s there = go (ltb 0 w) refl there
     where
@@ -94,7 +97,7 @@ module _ (X : Regex) (words : List (List ℕ)) (found : (s : List ℕ) → 0 < w
       go false e h = absurd (omega arith)
 
 -- the three lists of words
-pre-word : (s : List ℕ) → 0 < wordLen preWords s → matches preWord (take (wordLen preWords s) s)
+pub pre-word : (s : List ℕ) → 0 < wordLen preWords s → matches preWord (take (wordLen preWords s) s)
 pre-word s =
     this-word preWord s (bytes "alpha") _ (λ m. inr (inr (inr (inr (inl m)))))
     (this-word preWord s (bytes "a") _ (λ m. inl m)
@@ -110,11 +113,11 @@ post-word s =
     this-word postWord s (bytes "post") _ (λ m. inl m)
     (this-word postWord s (bytes "rev") _ (λ m. inr (inl m)) (this-word postWord s (bytes "r") _ (λ m. inr (inr m)) (no-word postWord s)))
 
-dev-word : (s : List ℕ) → 0 < wordLen devWords s → matches devWord (take (wordLen devWords s) s)
+pub dev-word : (s : List ℕ) → 0 < wordLen devWords s → matches devWord (take (wordLen devWords s) s)
 dev-word s = this-word devWord s (bytes "dev") _ (λ m. m) (no-word devWord s)
 
 -- `-` and a number, or the word
-post-front : (s : List ℕ) → 0 < postLen s → matches post (take (postLen s) s)
+pub post-front : (s : List ℕ) → 0 < postLen s → matches post (take (postLen s) s)
 unfolding postLen
 post-front s there = go (eqb (byteAt s 0) (code "-") && ltb 0 n) refl there
   where
@@ -127,9 +130,19 @@ post-front s there = go (eqb (byteAt s 0) (code "-") && ltb 0 n) refl there
         inl (joined-front (sign "-") number s 1 n (one-front (λ b. eqb b (code "-")) refl s first) (number-front (drop 1 s) (ltb-true 0 n rest)))
     go false e h = inr (part-front postWord postWords post-word s h)
 
+-- each of the three may be missing
+pub opt-pre-front : (s : List ℕ) → matches (opt pre) (take (preLen s) s)
+opt-pre-front s = perhaps pre s (preLen s) (part-front preWord preWords pre-word s)
+
+pub opt-post-front : (s : List ℕ) → matches (opt post) (take (postLen s) s)
+opt-post-front s = perhaps post s (postLen s) (post-front s)
+
+pub opt-dev-front : (s : List ℕ) → matches (opt dev) (take (devLen s) s)
+opt-dev-front s = perhaps dev s (devLen s) (part-front devWord devWords dev-word s)
+
 -- items behind joining bytes
 module _ (joins : ℕ → Bool) (end : joins 0 ≡ false) (r : Regex) (item : List ℕ → ℕ) (there : (s : List ℕ) → 0 < item s → matches r (take (item s) s)) where
-  more-front : (k : ℕ) (s : List ℕ) → matches (many (one joins then r)) (take (moreLen joins item k s) s)
+  pub more-front : (k : ℕ) (s : List ℕ) → matches (many (one joins then r)) (take (moreLen joins item k s) s)
   unfolding moreLen
   more-front zero s = none
   more-front (suc k) s = go (joins (byteAt s 0) && ltb 0 n) refl (more-front k (drop (1 + n) s))
@@ -171,7 +184,7 @@ segment-front s there = go (ltb (run isDigit s) (run isAlnum s)) refl there
         u = take (numberLen s) s
 
 -- `(?:\+([a-z0-9]+(?:[-_\.][a-z0-9]+)*))?`
-local-front : (s : List ℕ) → 0 < localLen s → matches local (take (localLen s) s)
+pub local-front : (s : List ℕ) → 0 < localLen s → matches local (take (localLen s) s)
 unfolding localLen more
 local-front s there = go (eqb (byteAt s 0) (code "+") && ltb 0 n) refl there
   where
@@ -189,8 +202,11 @@ local-front s there = go (eqb (byteAt s 0) (code "+") && ltb 0 n) refl there
         (rw (drop-drop n 1 s) (more-front isSeparator refl segment segmentLen segment-front (length (drop (1 + n) s)) (drop (1 + n) s)))))
     go false e h = absurd (omega arith)
 
+pub opt-local-front : (s : List ℕ) → matches (opt local) (take (localLen s) s)
+opt-local-front s = perhaps local s (localLen s) (local-front s)
+
 -- `v?` and `(?:([0-9]+)!)?`
-v-front : (s : List ℕ) → matches (opt (word "v")) (take (vLen s) s)
+pub v-front : (s : List ℕ) → matches (opt (word "v")) (take (vLen s) s)
 v-front s = go (eqb (small (byteAt s 0)) (code "v")) refl
   where
     go : (t : Bool) → eqb (small (byteAt s 0)) (code "v") ≡ t → matches (opt (word "v")) (take (cond t 1 0) s)
@@ -199,7 +215,7 @@ v-front s = go (eqb (small (byteAt s 0)) (code "v")) refl
         inr (rw (this, eqb-true (small b) (code "v") v))
     go false e = inl refl
 
-epoch-front : (s : List ℕ) → matches (opt (number then sign "!")) (take (epochLen s) s)
+pub epoch-front : (s : List ℕ) → matches (opt (number then sign "!")) (take (epochLen s) s)
 unfolding epochLen
 epoch-front s = go (ltb 0 n && eqb (byteAt s n) (code "!")) refl
   where
@@ -217,35 +233,41 @@ module _ (s : List ℕ) (at : ℕ) where
   taking : (len : List ℕ → ℕ) (r q : Regex) → matches r (take (len (drop at s)) (drop at s)) → matches q (drop (past len s at) s) → matches (r then q) (drop at s)
   taking len r q this next = joined r q (drop at s) (len (drop at s)) this (rw (drop-drop (len (drop at s)) at s) next)
 
-  ending : endsAt s at ≡ true → matches spaces (drop at s)
+  pub ending : endsAt s at ≡ true → matches spaces (drop at s)
   unfolding skip
   ending h =
       let whole : length (drop at s) ≤ run isSpace (drop at s) = omega (arith, eqb-true (at + run isSpace (drop at s)) (length s) h, length-drop at s) in
       rw take-all at (run-all isSpace (drop at s))
 
--- from the release's end on
-ends-matches : (s : List ℕ) (at : ℕ) → endsAt s (past localLen s (past devLen s (past postLen s (past preLen s at)))) ≡ true → matches afterRelease (drop at s)
+-- from the release's end on, K being what follows the dev part
+pub parts-matches : (K : Regex) (s : List ℕ) (at : ℕ) → matches K (drop (past devLen s (past postLen s (past preLen s at))) s) → matches (opt pre then opt post then opt dev then K) (drop at s)
+parts-matches K s at k =
+    taking s at preLen (opt pre) (opt post then opt dev then K) (opt-pre-front (drop at s))
+    (taking s (past preLen s at) postLen (opt post) (opt dev then K) (opt-post-front (drop (past preLen s at) s))
+    (taking s (past postLen s (past preLen s at)) devLen (opt dev) K (opt-dev-front (drop (past postLen s (past preLen s at)) s)) k))
+
+pub ends-matches : (s : List ℕ) (at : ℕ) → endsAt s (past localLen s (past devLen s (past postLen s (past preLen s at)))) ≡ true → matches afterRelease (drop at s)
 ends-matches s at h =
-    taking s at preLen (opt pre) afterPre (perhaps pre (drop at s) _ (part-front preWord preWords pre-word (drop at s))) (from-pre (past preLen s at) h)
-  where
-    from-dev : (at : ℕ) → endsAt s (past localLen s at) ≡ true → matches afterDev (drop at s)
-    from-dev at h = taking s at localLen (opt local) spaces (perhaps local (drop at s) _ (local-front (drop at s))) (ending s (past localLen s at) h)
+    let dev = past devLen s (past postLen s (past preLen s at)) in
+    parts-matches afterDev s at (taking s dev localLen (opt local) spaces (opt-local-front (drop dev s)) (ending s (past localLen s dev) h))
 
-    from-post : (at : ℕ) → endsAt s (past localLen s (past devLen s at)) ≡ true → matches afterPost (drop at s)
-    from-post at h = taking s at devLen (opt dev) afterDev (perhaps dev (drop at s) _ (part-front devWord devWords dev-word (drop at s))) (from-dev (past devLen s at) h)
+-- up to the first number's end, and to the release's
+pub begun-matches : (L : Regex) (s : List ℕ) → hasRelease (layout s) ≡ true → matches L (drop (layout s .first) s) → matches (begun L) s
+unfolding layout skip
+begun-matches L s there rest =
+    taking s 0 (run isSpace) spaces (fromV L) (run-all isSpace s)
+    (taking s (skip isSpace s 0) vLen (opt (word "v")) (fromStart L) (v-front (drop (skip isSpace s 0) s))
+    (taking s (layout s .start) epochLen (opt (number then sign "!")) (fromEpoch L) (epoch-front (drop (layout s .start) s))
+    (taking s (layout s .epoch) numberLen number L (number-front (drop (layout s .epoch) s) (omega (arith, ltb-true (layout s .epoch) (layout s .first) there))) rest)))
 
-    from-pre : (at : ℕ) → endsAt s (past localLen s (past devLen s (past postLen s at))) ≡ true → matches afterPre (drop at s)
-    from-pre at h = taking s at postLen (opt post) afterPost (perhaps post (drop at s) _ (post-front (drop at s))) (from-post (past postLen s at) h)
+pub others-front : (s : List ℕ) → matches (many (sign "." then number)) (take (more isDot numberLen s) s)
+unfolding more
+others-front s = more-front isDot refl number numberLen number-front (length s) s
 
--- up to the release's end
-released-matches : (K : Regex) (s : List ℕ) → hasRelease (layout s) ≡ true → matches K (drop (layout s .release) s) → matches (released K) s
-unfolding layout skip more
+pub released-matches : (K : Regex) (s : List ℕ) → hasRelease (layout s) ≡ true → matches K (drop (layout s .release) s) → matches (released K) s
+unfolding layout
 released-matches K s there rest =
-    taking s 0 (run isSpace) spaces (fromV K) (run-all isSpace s)
-    (taking s (skip isSpace s 0) vLen (opt (word "v")) (fromStart K) (v-front (drop (skip isSpace s 0) s))
-    (taking s (layout s .start) epochLen (opt (number then sign "!")) (fromEpoch K) (epoch-front (drop (layout s .start) s))
-    (taking s (layout s .epoch) numberLen number (fromFirst K) (number-front (drop (layout s .epoch) s) (omega (arith, ltb-true (layout s .epoch) (layout s .first) there)))
-    (taking s (layout s .first) (more isDot numberLen) (many (sign "." then number)) K (more-front isDot refl number numberLen number-front _ (drop (layout s .first) s)) rest))))
+    begun-matches (fromFirst K) s there (taking s (layout s .first) (more isDot numberLen) (many (sign "." then number)) K (others-front (drop (layout s .first) s)) rest)
 
 -- or its star
 star-matches : (s : List ℕ) (at : ℕ) → begins (bytes ".*") (drop at s) ≡ true → endsAt s (at + 2) ≡ true → matches starred (drop at s)
@@ -260,6 +282,13 @@ accepted-matches s h =
     let (there, end) = both (hasRelease (layout s)) (endsAt s (layout s .local)) h in
     released-matches afterRelease s there (ends-matches s (layout s .release) end)
 
+-- and what is read with a star, its expression
+pub star-taken : (s : List ℕ) → isStarredAt (layout s) s ≡ true → matches (released starred) s
+star-taken s h =
+    let (front, end) = both (hasRelease (layout s) && begins (bytes ".*") (drop (layout s .release) s)) (endsAt s (layout s .release + 2)) h in
+    let (there, star) = both (hasRelease (layout s)) (begins (bytes ".*") (drop (layout s .release) s)) front in
+    released-matches starred s there (star-matches s (layout s .release) star end)
+
 -- what is read as a pattern, the pattern's expression matches
 pub pattern-accepted-matches : (s : List ℕ) → isPattern s ≡ true → matches patternRegex s
 unfolding isPattern isVersion
@@ -267,7 +296,4 @@ pattern-accepted-matches s h = go (isVersionAt (layout s) s) refl h
   where
     go : (t : Bool) → isVersionAt (layout s) s ≡ t → (t || isStarredAt (layout s) s) ≡ true → matches patternRegex s
     go true e h = inl (accepted-matches s e)
-    go false e h =
-        let (front, end) = both (hasRelease (layout s) && begins (bytes ".*") (drop (layout s .release) s)) (endsAt s (layout s .release + 2)) h in
-        let (there, star) = both (hasRelease (layout s)) (begins (bytes ".*") (drop (layout s .release) s)) front in
-        inr (released-matches starred s there (star-matches s (layout s .release) star end))
+    go false e h = inr (star-taken s h)

@@ -13,9 +13,9 @@ use Rattle.text.proofs.Cases.{both}
 use Rattle.text.specs.Class.{isDigit, isAlnum, isLetter}
 use Rattle.text.specs.Scan.{run, byteAt}
 use Rattle.version_language.specs.Appendix.{Regex, none, some, matches, all, one, many, _then_, number, segment, bounded}
-use Rattle.version.specs.Joined.{moreLen, more}
-use Rattle.version.specs.Layout.{segmentLen}
-use Rattle.version.specs.Number.{valueFrom, numberLen}
+use Rattle.version_parts.specs.Joined.{moreLen, more}
+use Rattle.version_parts.specs.Local.{segmentLen}
+use Rattle.version_number.specs.Number.{valueFrom, numberLen}
 
 module _ (p : ℕ → Bool) where
   run-none : (w : List ℕ) → p (byteAt w 0) ≡ false → run p w ≡ 0
@@ -40,7 +40,7 @@ module _ (p : ℕ → Bool) where
       go true h rest = omega (arith, rest h)
       go false h rest = omega arith
 
-value-whole : (v : ℕ) (u w : List ℕ) → all isDigit u ≡ true → isDigit (byteAt w 0) ≡ false → valueFrom v (u ++ w) ≡ valueFrom v u
+pub value-whole : (v : ℕ) (u w : List ℕ) → all isDigit u ≡ true → isDigit (byteAt w 0) ≡ false → valueFrom v (u ++ w) ≡ valueFrom v u
 unfolding valueFrom
 value-whole v [] w h stop = go w stop
   where
@@ -56,7 +56,7 @@ module _ (u : List ℕ) (m : matches number u) where
   pub number-there : 0 < length u
   number-there = ltb-true 0 (length u) (both (ltb 0 (length u)) (all isDigit u) (both (ltb 0 (length u) && all isDigit u) (bounded u) m .0) .0)
 
-  number-digits : all isDigit u ≡ true
+  pub number-digits : all isDigit u ≡ true
   number-digits = both (ltb 0 (length u)) (all isDigit u) (both (ltb 0 (length u) && all isDigit u) (bounded u) m .0) .1
 
   pub number-whole : (w : List ℕ) → isDigit (byteAt w 0) ≡ false → numberLen (u ++ w) ≡ length u

@@ -16,7 +16,7 @@ use Rattle.text.specs.Word.{bytes, begins, beginsBy}
 use Rattle.version_language.proofs.Bytes.{Apart, lettered, listed}
 use Rattle.version_language.proofs.Parts.{preWord, postWord, devWord}
 use Rattle.version_language.specs.Appendix.{Regex, matches}
-use Rattle.version.specs.Part.{says, wordLen, preWords, postWords, devWords}
+use Rattle.version_parts.specs.Part.{says, wordLen, preWords, postWords, devWords}
 
 -- the same search in a text whose letters are small
 wordIn : List (List ℕ) → List ℕ → ℕ

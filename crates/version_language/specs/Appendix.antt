@@ -11,7 +11,7 @@ use lib.Dec.{leb, ltb, eqb}
 use lib.ListN.{length}
 use Rattle.text.specs.Class.{isSpace, isDigit, isAlnum, isSeparator, small}
 use Rattle.text.specs.Word.{bytes}
-use Rattle.version.specs.Number.{value}
+use Rattle.version_number.specs.Number.{value, largest}
 
 infixr 40 _then_
 infixr 30 _or_
@@ -56,7 +56,7 @@ separator = one isSeparator  -- [-_\.]
 
 -- "Each number (all-digit local segments too) is at most 18,446,744,073,709,551,615"
 abbrev pub bounded : List ℕ → Bool
-bounded s = leb (value s) 18_446_744_073_709_551_615
+bounded s = leb (value s) largest
 
 abbrev pub number : Regex
 number = text (λ s. ltb 0 (length s) && all isDigit s && bounded s)  -- [0-9]+

@@ -1,17 +1,18 @@
-// The words for the codes of a comparison: its sort, its key as document 01 writes it, its operator.
+// The words for a comparison: its sort, its key as document 01 writes it, its operator.
 ghost use Prim.Native.Nat.{_≤_, max};
-use comparison::ExtraKind;
-use comparison::Key;
-use comparison::Operator;
-use comparison::Sort;
+ghost use Rattle.output.specs.Room.{mostWaiting};
+use marker_kind::ExtraKind;
+use marker_kind::Key;
+use marker_kind::Operator;
+use marker_kind::Sort;
 use output::ROOM;
 use output::put;
 use output::put_text;
 
-pub fn put_sort(buf: &mut [u8; ROOM], at: usize, code: usize) -> usize
-    ensures { λ r. ⌜ r ≤ max at 65537 ⌝ }
+pub fn put_sort(buf: &mut [u8; ROOM], at: usize, sort: Sort) -> usize
+    ensures { λ r. ⌜ r ≤ max at mostWaiting ⌝ }
 {
-    match marker_code::sort_of(code) {
+    match sort {
         Sort::Version => put_text(buf, at, b"version"),
         Sort::VersionList => put_text(buf, at, b"version_list"),
         Sort::String => put_text(buf, at, b"string"),
@@ -22,10 +23,10 @@ pub fn put_sort(buf: &mut [u8; ROOM], at: usize, code: usize) -> usize
     }
 }
 
-pub fn put_key(buf: &mut [u8; ROOM], at: usize, code: usize) -> usize
-    ensures { λ r. ⌜ r ≤ max at 65537 ⌝ }
+pub fn put_key(buf: &mut [u8; ROOM], at: usize, key: Key) -> usize
+    ensures { λ r. ⌜ r ≤ max at mostWaiting ⌝ }
 {
-    match marker_code::key_of(code) {
+    match key {
         Key::PythonVersion => put_text(buf, at, b"python_version"),
         Key::PythonFullVersion => put_text(buf, at, b"python_full_version"),
         Key::ImplementationVersion => put_text(buf, at, b"implementation_version"),
@@ -43,17 +44,17 @@ pub fn put_key(buf: &mut [u8; ROOM], at: usize, code: usize) -> usize
 
 // Behind `not`, with what is to stand between the two words.
 fn put_not(buf: &mut [u8; ROOM], at: usize, between: u8, word: &[u8]) -> usize
-    ensures { λ r. ⌜ r ≤ max at 65537 ⌝ }
+    ensures { λ r. ⌜ r ≤ max at mostWaiting ⌝ }
 {
     let n = put_text(buf, at, b"not");
     let n = put(buf, n, between);
     put_text(buf, n, word)
 }
 
-pub fn put_operator(buf: &mut [u8; ROOM], at: usize, code: usize, between: u8) -> usize
-    ensures { λ r. ⌜ r ≤ max at 65537 ⌝ }
+pub fn put_operator(buf: &mut [u8; ROOM], at: usize, operator: Operator, between: u8) -> usize
+    ensures { λ r. ⌜ r ≤ max at mostWaiting ⌝ }
 {
-    match marker_code::operator_of(code) {
+    match operator {
         Operator::Equal => put_text(buf, at, b"=="),
         Operator::NotEqual => put_text(buf, at, b"!="),
         Operator::Less => put_text(buf, at, b"<"),

@@ -11,15 +11,15 @@ pub measure-spec : {M : Type 1} → statement M
 measure-spec =
     tie.close
     (tie.spec
-    (λ name n₀ i₀ n i. (n ≤ i) × (n + length (normal (drop i name)) ≡ length (normal name)))  -- Inv-loop
-    (λ name n₀ i₀ n i. length name - i)  -- μ-loop
+    (λ name n₀ at₀ n at. (n ≤ at) × (n + length (normal (drop at name)) ≡ length (normal name)))  -- Inv-loop
+    (λ name n₀ at₀ n at. length name - at)  -- μ-loop
     (λ c. search normals)  -- loop-holds
-    (λ c κs. search normals)  -- goes-at-requires
-    (λ c. search normals)  -- add-i
+    (λ c κs. search normals)  -- merges-at-requires
+    (λ c. search normals)  -- add-at
     (λ c. search normals)  -- loop-less
     (λ c. search normals)  -- loop-again
     (λ c. search normals)  -- add-n
-    (λ c. search normals)  -- add-i-2
+    (λ c. search normals)  -- add-at-2
     (λ c. search normals)  -- loop-less-2
     (λ c. (omega arith, search normals))  -- loop-again-2
     (λ c. search normals))  -- returns

@@ -1,4 +1,4 @@
-use Rattle.text.proofs.Laws.{scan}
+use Rattle.cursor.proofs.Laws.{scan}
 use Rattle.name.proofs.name_run.Statement.{statement}
 use Rattle.name.proofs.name_run.Tie as tie
 

@@ -6,12 +6,12 @@ pub normalise-spec : {M : Type 1} → statement M
 normalise-spec =
     tie.close
     (tie.spec
-    (λ c κs. search normals)  -- bad-at-requires
-    (λ c κs. search normals)  -- new-requires
+    (λ c. search normals)  -- bad-at-requires
+    (λ c. search normals)  -- new-requires
     (λ c. search normals)  -- returns
-    (λ c κs. search normals)  -- measure-requires
-    (λ c κs. search normals)  -- new-requires-2
+    (λ c. search normals)  -- measure-requires
+    (λ c. search normals)  -- new-requires-2
     (λ c. search normals)  -- returns-2
-    (λ c κs. search normals)  -- write-requires
+    (λ c. search normals)  -- write-requires
     (λ c. search normals)  -- same-length
     (λ c. search normals))  -- returns-3

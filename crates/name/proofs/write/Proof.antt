@@ -1,6 +1,6 @@
 use Prim.Native.Nat.{_-_}
 use lib.ListN.{length, drop}
-use Rattle.text.proofs.Front.{Front}
+use Rattle.arrays.proofs.Front.{Front}
 use Rattle.name.specs.Normal.{normal}
 use Rattle.name.proofs.Laws.{normals}
 use Rattle.name.proofs.write.Statement.{statement}
@@ -13,7 +13,7 @@ write-spec =
     (λ name out₀ n₀ i₀ out n i. Front (normal name) (normal (drop i name)) out₀ out n)  -- Inv-loop
     (λ name out₀ n₀ i₀ out n i. length name - i)  -- μ-loop
     (λ c. search normals)  -- loop-holds
-    (λ c κs. search normals)  -- goes-at-requires
+    (λ c κs. search normals)  -- merges-at-requires
     (λ c. search normals)  -- add-i
     (λ c. search normals)  -- loop-less
     (λ c. search normals)  -- loop-again

@@ -3,10 +3,11 @@ use mathlib.Core.Logic.{_⊎_, inl, inr}
 use mathlib.Core.Path.{_≡_}
 use Prim.Native.Nat.{ℕ, _≤_}
 use borrow.Author.Needs.{needs}
+use Rattle.output.specs.Room.{mostWaiting}
 use Rattle.output.proofs.free_place.Statement.{statement}
 use Rattle.output.proofs.free_place.Tie as tie
 
-few : {r : ℕ} → (r ≡ 0) ⊎ (r ≡ 65537) → r ≤ 65537
+few : {r : ℕ} → (r ≡ 0) ⊎ (r ≡ mostWaiting) → r ≤ mostWaiting
 few (inl e) = omega arith
 few (inr e) = omega arith
 

@@ -1,5 +1,6 @@
 use Prim.Native.Nat.{_-_, _≤_, max}
 use borrow.Author.Needs.{needs}
+use Rattle.output.specs.Room.{mostWaiting}
 use Rattle.output.proofs.put_part.Statement.{statement}
 use Rattle.output.proofs.put_part.Tie as tie
 
@@ -7,7 +8,7 @@ pub put-part-spec : {M : Type 1} → statement M
 put-part-spec =
     tie.close
     (tie.spec
-    (λ buf₀ at text from to n₀ i₀ buf n i. n ≤ max at 65537)  -- Inv-loop
+    (λ buf₀ at text from to n₀ i₀ buf n i. n ≤ max at mostWaiting)  -- Inv-loop
     (λ buf₀ at text from to n₀ i₀ buf n i. to - i)  -- μ-loop
     (λ c. search needs)  -- loop-holds
     (λ c. search needs)  -- shared-slice-read-put

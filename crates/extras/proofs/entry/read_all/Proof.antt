@@ -1,4 +1,4 @@
-use Rattle.extras.proofs.Entries.{doors}
+use Rattle.extras.proofs.Laws.{doors}
 use Rattle.extras.proofs.entry.read_all.Statement.{statement}
 use Rattle.extras.proofs.entry.read_all.Tie as tie
 

@@ -1,4 +1,4 @@
-use Rattle.extras.proofs.Entries.{doors}
+use Rattle.extras.proofs.Laws.{doors}
 use Rattle.extras.proofs.entry.refused.Statement.{statement}
 use Rattle.extras.proofs.entry.refused.Tie as tie
 

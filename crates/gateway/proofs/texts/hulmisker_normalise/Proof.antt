@@ -1,6 +1,7 @@
-use Rattle.text.specs.Refusal.{given}
+use Rattle.refusal.specs.Refusal.{given}
 use Rattle.name.specs.Normalise.{told}
-use Rattle.gateway.proofs.Laws.{numbers, arm-number, arm-count}
+use Rattle.figures.proofs.Laws.{arm-number, arm-count}
+use Rattle.gateway.proofs.Laws.{figures}
 use Rattle.gateway.proofs.texts.hulmisker_normalise.Statement.{statement}
 use Rattle.gateway.proofs.texts.hulmisker_normalise.Tie as tie
 
@@ -9,14 +10,14 @@ unfolding given
 hulmisker-normalise-spec =
     tie.close
     (tie.spec
-    (λ c κs. search numbers)  -- normalise-requires
-    (λ c. search numbers)  -- enum-known-n
-    (λ c κs. search numbers)  -- accepted-requires
-    (λ c κs. search numbers)  -- tell-count-requires
-    (λ c. search numbers)  -- enum-known-why
-    (λ c κs. search numbers)  -- refused-requires
-    (λ c κs. search numbers)  -- tell-count-requires-2
-    (λ c. search numbers)  -- same-length
-    (λ c. search (arm-number told, arm-count told, numbers))  -- returns
-    (λ c. search numbers)  -- same-length-2
-    (λ c. search (arm-number told, arm-count told, numbers)))  -- returns-2
+    (λ c κs. search figures)  -- normalise-requires
+    (λ c. search figures)  -- enum-known-n
+    (λ c κs. search figures)  -- accepted-requires
+    (λ c κs. search figures)  -- tell-count-requires
+    (λ c. search figures)  -- enum-known-why
+    (λ c κs. search figures)  -- refused-requires
+    (λ c κs. search figures)  -- tell-count-requires-2
+    (λ c. search figures)  -- same-length
+    (λ c. search (arm-number told, arm-count told, figures))  -- returns
+    (λ c. search figures)  -- same-length-2
+    (λ c. search (arm-number told, arm-count told, figures)))  -- returns-2

@@ -1,4 +1,4 @@
-use Rattle.line.proofs.Written.{quickly, stop-outcome, stop-figures, stop-buffers}
+use Rattle.line.proofs.Quickly.{quickly, stop-into}
 use Rattle.line.proofs.quick.quick_all.Statement.{statement}
 use Rattle.line.proofs.quick.quick_all.Tie as tie
 
@@ -12,4 +12,4 @@ quick-all-spec =
     (λ c. search quickly)  -- enum-known-why
     (λ c κs. search quickly)  -- refused-quick-requires
     (λ c. search quickly)  -- returns
-    (λ c. (search stop-outcome, (search stop-figures, search stop-buffers))))  -- returns-2
+    (λ c. search stop-into))  -- returns-2

@@ -1,4 +1,4 @@
-use Rattle.line.proofs.Written.{quickly, marked-outcome, marked-figures, marked-buffers, bad-outcome, bad-figures, bad-buffers}
+use Rattle.line.proofs.Quickly.{quickly, marked-outcome, marked-figures, marked-buffers, bad-into}
 use Rattle.line.proofs.quick.quick_marked.Statement.{statement}
 use Rattle.line.proofs.quick.quick_marked.Tie as tie
 
@@ -12,5 +12,5 @@ quick-marked-spec =
     (λ c κs. search quickly)  -- figures-of-requires
     (λ c. search quickly)  -- enum-known-outcome
     (λ c κs. search quickly)  -- refused-quick-requires
-    (λ c. (search marked-outcome, (search marked-figures, search marked-buffers)))  -- returns
-    (λ c. (search bad-outcome, (search bad-figures, search bad-buffers))))  -- returns-2
+    (λ c. record { outcome = search marked-outcome; figures = search marked-figures; output = search marked-buffers })  -- returns
+    (λ c. search bad-into))  -- returns-2

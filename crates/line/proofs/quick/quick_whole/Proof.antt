@@ -1,4 +1,4 @@
-use Rattle.line.proofs.Written.{quickly, end-outcome, end-figures, end-buffers}
+use Rattle.line.proofs.Quickly.{quickly, end-outcome, end-figures, end-buffers}
 use Rattle.line.proofs.quick.quick_whole.Statement.{statement}
 use Rattle.line.proofs.quick.quick_whole.Tie as tie
 
@@ -12,5 +12,5 @@ quick-whole-spec =
     (λ c κs. search quickly)  -- figures-of-requires
     (λ c. search quickly)  -- enum-known-tail
     (λ c κs. search quickly)  -- quick-marked-requires
-    (λ c. (search end-outcome, (search end-figures, search end-buffers)))  -- returns
+    (λ c. record { outcome = search end-outcome; figures = search end-figures; output = search end-buffers })  -- returns
     (λ c. search quickly))  -- returns-2

@@ -1,4 +1,4 @@
-use Rattle.line.proofs.Written.{quickly, entry-outcome, entry-figures, entry-buffers, first-outcome, first-figures, first-buffers}
+use Rattle.line.proofs.Quickly.{quickly, entry-into, first-into}
 use Rattle.line.proofs.quick.read_line_into.Statement.{statement}
 use Rattle.line.proofs.quick.read_line_into.Tie as tie
 
@@ -11,5 +11,5 @@ read-line-into-spec =
     (λ c κs. search quickly)  -- quick-all-requires
     (λ c. search quickly)  -- enum-known-why
     (λ c κs. search quickly)  -- refused-quick-requires
-    (λ c. (search entry-outcome, (search entry-figures, search entry-buffers)))  -- returns
-    (λ c. (search first-outcome, (search first-figures, search first-buffers))))  -- returns-2
+    (λ c. search entry-into)  -- returns
+    (λ c. search first-into))  -- returns-2

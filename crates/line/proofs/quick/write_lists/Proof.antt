@@ -1,4 +1,4 @@
-use Rattle.line.proofs.Written.{quickly}
+use Rattle.line.proofs.Quickly.{quickly}
 use Rattle.line.proofs.quick.write_lists.Statement.{statement}
 use Rattle.line.proofs.quick.write_lists.Tie as tie
 

@@ -8,7 +8,7 @@ use lib.ListN.{length}
 use borrow.Author.Needs.{needs}
 use borrow.Fn.Kinds.{In}
 use borrow.Fn.PlainCycle.{Measures, is, falls, and}
-use Rattle.comparison.proofs.find.Reads as find-reads
+use Rattle.marker_verdict.proofs.find.Reads as find-reads
 use Rattle.marker_cycle.proofs.Chain.{Held, togo, going-starts, going-stops, turns, turn-room, turn-spare, turn-again, turn-less}
 use Rattle.marker_cycle.proofs.Items.{joins-both, joins-either, word-sane, item-sane, and-sane, group-sane, item-group, item-found, group-deep, group-state}
 use Rattle.marker_steps.proofs.Laws.{room-of, right-of, inside-of, slack-of, shows-refused}
@@ -30,12 +30,11 @@ use Rattle.marker_steps.proofs.close.Reads as close-reads
 use Rattle.marker_steps.proofs.join.Reads as join-reads
 use Rattle.marker_steps.proofs.take_in.Reads as take-in-reads
 use Rattle.marker_steps.specs.Grammar.{Parsed, both, either, wordAhead, andWord, orWord, itemOf, andOf, orOf, groupAt}
-use Rattle.marker_steps.specs.Steps.{shows, stateOf}
-use Rattle.marker_steps.specs.declared.part.Part.the-variants.{Refused}
+use Rattle.marker_steps.specs.inner.Steps.{halted, shows, stateOf}
 use Rattle.text.proofs.Places.{places}
-use Rattle.text.proofs.cursor.Cursor.skip_whitespace.Reads as skip-whitespace-reads
+use Rattle.cursor.proofs.cursor.Cursor.skip_whitespace.Reads as skip-whitespace-reads
 use Rattle.text.proofs.has.Reads as has-reads
-use Rattle.text.proofs.refusal.Refusal.new.Reads as new-reads
+use Rattle.refusal.proofs.fault.Refusal.new.Reads as new-reads
 
 abbrev μ-and-chain : Measures 4 and-chain-kinds.ps ℕ
 μ-and-chain κs a = 3 * a .1 .1 .0 + 1
@@ -227,8 +226,10 @@ comparison-or-group-refused-requires t c κs = search needs
 comparison-or-group-returns : (t : ℕ) → comparison-or-group-lts.Need-returns (comparison-or-group-claims t) (comparison-or-group-at t) comparison-or-group.Post
 unfolding stateOf
 comparison-or-group-returns t c =
-    shows-refused _ _ _ _ (c .refused .ensures ∙ ap Refused (c .before .new .ensures))
-    ∙ sym (rw (item-group _ _ _ _ _ (c .before .before .before .before .before .skip-whitespace .ensures) (c .before .before .before .before .has .ensures) (c .before .before .before .if1 .taken), group-deep _ _ _ _ _ (c .before .before .if2 .taken)))
+    let skipped = c .before .before .before .before .before .skip-whitespace in
+    let seen = c .before .before .before .before .has in
+    shows-refused _ _ _ _ (c .refused .ensures ∙ ap halted (c .before .new .ensures))
+    ∙ sym (rw (item-group _ _ _ _ _ (skipped .ensures) (seen .ensures) (c .before .before .before .if1 .taken), group-deep _ _ _ _ _ (c .before .before .if2 .taken)))
 
 comparison-or-group-add-or-chain : (t : ℕ) → comparison-or-group-lts.Need-add-or-chain (comparison-or-group-claims t) (comparison-or-group-at t) comparison-or-group.Post
 comparison-or-group-add-or-chain t c = search places
@@ -237,14 +238,20 @@ comparison-or-group-sub-or-chain : (t : ℕ) → comparison-or-group-lts.Need-su
 comparison-or-group-sub-or-chain t c = search needs
 
 comparison-or-group-or-chain-requires : (t : ℕ) → comparison-or-group-lts.Need-or-chain-requires (comparison-or-group-claims t) (comparison-or-group-at t) comparison-or-group.Post
-comparison-or-group-or-chain-requires t c κs = (omega (arith, c .before .before .before .before .before .before .before .before .pre .0, c .before .before .before .if2 .left), c .before .before .before .before .before .before .before .before .pre .1)
+comparison-or-group-or-chain-requires t c κs =
+    let entry = c .before .before .before .before .before .before .before .before in
+    (omega (arith, entry .pre .0, c .before .before .before .if2 .left), entry .pre .1)
 
 comparison-or-group-close-requires : (t : ℕ) → comparison-or-group-lts.Need-close-requires (comparison-or-group-claims t) (comparison-or-group-at t) comparison-or-group.Post
 comparison-or-group-close-requires t c κs = search needs
 
 comparison-or-group-returns-2 : (t : ℕ) → comparison-or-group-lts.Need-returns-2 (comparison-or-group-claims t) (comparison-or-group-at t) comparison-or-group.Post
 comparison-or-group-returns-2 t c =
-    group-state _ _ _ _ _ _ (c .before .before .before .before .before .before .before .before .skip-whitespace .ensures) (c .before .before .before .before .before .before .before .has .ensures) (c .before .before .before .before .before .before .if1 .taken) (c .before .before .before .before .before .if2 .left)
+    let skipped = c .before .before .before .before .before .before .before .before .skip-whitespace in
+    let seen = c .before .before .before .before .before .before .before .has in
+    let opens = c .before .before .before .before .before .before .if1 in
+    let room = c .before .before .before .before .before .if2 in
+    group-state _ _ _ _ _ _ (skipped .ensures) (seen .ensures) (opens .taken) (room .left)
     (c .before .or-chain .ensures) (c .close .ensures _ _ _)
 
 comparison-or-group-find-requires : (t : ℕ) → comparison-or-group-lts.Need-find-requires (comparison-or-group-claims t) (comparison-or-group-at t) comparison-or-group.Post
@@ -254,7 +261,12 @@ comparison-or-group-take-in-requires : (t : ℕ) → comparison-or-group-lts.Nee
 comparison-or-group-take-in-requires t c κs = c .before .before .before .before .before .before .before .before .pre .1
 
 comparison-or-group-returns-3 : (t : ℕ) → comparison-or-group-lts.Need-returns-3 (comparison-or-group-claims t) (comparison-or-group-at t) comparison-or-group.Post
-comparison-or-group-returns-3 t c = rw (item-found _ _ _ _ _ (c .before .before .before .before .before .before .before .skip-whitespace .ensures) (c .before .before .before .before .before .before .has .ensures) (c .before .before .before .before .before .if1 .left), ← c .before .before .before .before .find .ensures) (c .take-in .ensures)
+comparison-or-group-returns-3 t c =
+    let skipped = c .before .before .before .before .before .before .before .skip-whitespace in
+    let seen = c .before .before .before .before .before .before .has in
+    let opens = c .before .before .before .before .before .if1 in
+    let found = c .before .before .before .before .find in
+    rw (item-found _ _ _ _ _ (skipped .ensures) (seen .ensures) (opens .left), ← found .ensures) (c .take-in .ensures)
 
 pub +and-chain+comparison-or-group+or-chain-spec : {M : Type 1} → statement M
 +and-chain+comparison-or-group+or-chain-spec =

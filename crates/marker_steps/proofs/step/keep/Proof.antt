@@ -1,4 +1,4 @@
-use Rattle.marker_steps.specs.Steps.{keeping}
+use Rattle.marker_steps.specs.inner.Steps.{keeping}
 use borrow.Author.Needs.{needs}
 use Rattle.marker_steps.proofs.step.keep.Statement.{statement}
 use Rattle.marker_steps.proofs.step.keep.Tie as tie

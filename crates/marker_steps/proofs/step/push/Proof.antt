@@ -1,5 +1,5 @@
 use mathlib.Core.Path.{refl}
-use Rattle.marker_steps.specs.Steps.{pushed}
+use Rattle.marker_steps.specs.inner.Steps.{pushed}
 use borrow.Author.Needs.{needs}
 use Rattle.marker_steps.proofs.step.push.Statement.{statement}
 use Rattle.marker_steps.proofs.step.push.Tie as tie

@@ -1,4 +1,4 @@
-use Rattle.marker_steps.specs.Steps.{warning}
+use Rattle.marker_steps.specs.inner.Steps.{warning}
 use borrow.Author.Needs.{needs}
 use Rattle.marker_steps.proofs.step.warn.Statement.{statement}
 use Rattle.marker_steps.proofs.step.warn.Tie as tie

@@ -1,5 +1,6 @@
 use Prim.Native.Nat.{_-_, _≤_, max}
 use borrow.Author.Needs.{needs}
+use Rattle.output.specs.Room.{mostWaiting}
 use Rattle.requests.proofs.answers.put_bytes.Statement.{statement}
 use Rattle.requests.proofs.answers.put_bytes.Tie as tie
 
@@ -7,7 +8,7 @@ pub put-bytes-spec : {M : Type 1} → statement M
 put-bytes-spec =
     tie.close
     (tie.spec
-    (λ buf₀ at out room n₀ i₀ buf n i. n ≤ max at 65537)  -- Inv-loop
+    (λ buf₀ at out room n₀ i₀ buf n i. n ≤ max at mostWaiting)  -- Inv-loop
     (λ buf₀ at out room n₀ i₀ buf n i. room - i)  -- μ-loop
     (λ c. search needs)  -- loop-holds
     (λ c. search needs)  -- element-copy-out-put-hex

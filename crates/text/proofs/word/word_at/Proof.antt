@@ -2,7 +2,7 @@ use mathlib.Core.Path.{_≡_}
 use Prim.Native.Nat.{_-_}
 use lib.ListN.{length, drop}
 use Rattle.text.specs.Word.{begins}
-use Rattle.text.proofs.Words.{word}
+use Rattle.text.proofs.Words.{spelling}
 use Rattle.text.proofs.word.word_at.Statement.{statement}
 use Rattle.text.proofs.word.word_at.Tie as tie
 
@@ -12,14 +12,14 @@ word-at-spec =
     (tie.spec
     (λ line start word at₀ i₀ at i. begins (drop i word) (drop at line) ≡ begins word (drop start line))
     (λ line start word at₀ i₀ at i. length word - i)
-    (λ c. search word)
-    (λ c. search word)
-    (λ c. search word)
-    (λ c. search word)
-    (λ c κs. search word)
-    (λ c. search word)
-    (λ c. search word)
-    (λ c. search word)
-    (λ c. search word)
-    (λ c. search word)
-    (λ c. search word))
+    (λ c. search spelling)
+    (λ c. search spelling)
+    (λ c. search spelling)
+    (λ c. search spelling)
+    (λ c κs. search spelling)
+    (λ c. search spelling)
+    (λ c. search spelling)
+    (λ c. search spelling)
+    (λ c. search spelling)
+    (λ c. search spelling)
+    (λ c. search spelling))

@@ -1,0 +1,2 @@
+-- a list over the front of an array, and in an array of its own
+pub mod Front

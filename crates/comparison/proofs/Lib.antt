@@ -1,6 +1,0 @@
-pub mod Examples
-pub mod Finds
-pub mod Further
-pub mod Laws
-pub mod Mirror
-pub mod Values

@@ -1,4 +1,0 @@
-pub mod Found
-pub mod Judge
-pub mod Operator
-pub mod Value

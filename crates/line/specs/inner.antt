@@ -1,0 +1,2 @@
+-- what the door holds when the parts before the marker are read
+pub mod Ready

@@ -1,0 +1,2 @@
+-- what a line says under an assignment
+pub mod Value

@@ -1,0 +1,2 @@
+-- what the door makes of what it has found
+pub mod Found

@@ -1,0 +1,2 @@
+-- the URL at a place of a line
+pub mod Url

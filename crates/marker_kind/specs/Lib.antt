@@ -1,0 +1,2 @@
+-- the numbers of a sort, a key, an operator, and back
+pub mod Code

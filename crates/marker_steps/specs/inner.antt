@@ -1,0 +1,2 @@
+-- what each step makes of the arrays
+pub mod Steps

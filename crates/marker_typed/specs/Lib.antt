@@ -1,0 +1,4 @@
+-- the typed lists
+pub mod Lists
+-- what only the door's own functions are stated by
+pub mod inner

@@ -1,0 +1,2 @@
+-- how the lists are made from the arrays of numbers
+pub mod Gather

@@ -1,0 +1,27 @@
+use Rattle.marker_value.specs.Value.{stringNameIn}
+use Rattle.text.proofs.Cases.{cases}
+use Rattle.marker_value.proofs.value.string_name_in.Statement.{statement}
+use Rattle.marker_value.proofs.value.string_name_in.Tie as tie
+
+pub string-name-in-spec : {M : Type 1} → statement M
+unfolding stringNameIn
+string-name-in-spec =
+    tie.close
+    (tie.spec
+    (λ c. search cases)  -- slice-aggregate-spelled
+    (λ c κs. search cases)  -- spelled-requires
+    (λ c. search cases depth 12)  -- returns
+    (λ c. search cases)  -- slice-aggregate-spelled-2
+    (λ c κs. search cases)  -- spelled-requires-2
+    (λ c. search cases depth 12)  -- returns-2
+    (λ c. search cases)  -- slice-aggregate-spelled-3
+    (λ c κs. search cases)  -- spelled-requires-3
+    (λ c. search cases depth 12)  -- returns-3
+    (λ c. search cases)  -- slice-aggregate-spelled-4
+    (λ c κs. search cases)  -- spelled-requires-4
+    (λ c. search cases depth 12)  -- returns-4
+    (λ c. search cases)  -- slice-aggregate-spelled-5
+    (λ c κs. search cases)  -- spelled-requires-5
+    (λ c. search cases depth 12)  -- returns-5
+    (λ c κs. search cases)  -- last-name-in-requires
+    (λ c. search cases depth 12))  -- returns-6

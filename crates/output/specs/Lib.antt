@@ -1,0 +1,2 @@
+-- how much may wait to be written
+pub mod Room

@@ -1,0 +1,6 @@
+pub mod Examples
+pub mod Forest
+pub mod Meaning
+pub mod Numbers
+pub mod Place
+pub mod Steady

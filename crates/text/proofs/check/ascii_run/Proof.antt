@@ -1,6 +1,0 @@
-use Rattle.text.proofs.Laws.{scan}
-use Rattle.text.proofs.check.ascii_run.Statement.{statement}
-use Rattle.text.proofs.check.ascii_run.Tie as tie
-
-pub ascii-run-spec : {M : Type 1} → statement M
-ascii-run-spec = tie.close (tie.spec (λ c κs. search scan) (λ c κs. search scan) (λ c. search scan))

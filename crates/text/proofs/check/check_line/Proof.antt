@@ -1,6 +1,0 @@
-use Rattle.text.proofs.Laws.{scan}
-use Rattle.text.proofs.check.check_line.Statement.{statement}
-use Rattle.text.proofs.check.check_line.Tie as tie
-
-pub check-line-spec : {M : Type 1} → statement M
-check-line-spec = tie.close (tie.spec (λ c κs. search scan) (λ c. search scan) (λ c κs. search scan) (λ c. search scan))

@@ -1,6 +1,0 @@
-use Rattle.text.proofs.Laws.{scan}
-use Rattle.text.proofs.cursor.Cursor.next.Statement.{statement}
-use Rattle.text.proofs.cursor.Cursor.next.Tie as tie
-
-pub next-spec : {M : Type 1} → statement M
-next-spec = tie.close (tie.spec (λ c. search scan) (λ c. search scan) (λ c. search scan) (λ c. search scan))

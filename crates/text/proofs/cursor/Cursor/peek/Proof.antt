@@ -1,6 +1,0 @@
-use Rattle.text.proofs.Laws.{scan}
-use Rattle.text.proofs.cursor.Cursor.peek.Statement.{statement}
-use Rattle.text.proofs.cursor.Cursor.peek.Tie as tie
-
-pub peek-spec : {M : Type 1} → statement M
-peek-spec = tie.close (tie.spec (λ c. search scan) (λ c. search scan) (λ c. search scan))

@@ -1,0 +1,2 @@
+-- The law by which the entries are proved.
+pub mod Entries

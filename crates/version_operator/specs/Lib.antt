@@ -1,0 +1,2 @@
+-- "Operators are `<= < != == >= > ~= ===`.", and what may go with each.
+pub mod Operator

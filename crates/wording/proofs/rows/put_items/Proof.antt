@@ -1,0 +1,19 @@
+use Prim.Native.Nat.{_-_, _≤_, max}
+use borrow.Author.Needs.{needs}
+use Rattle.output.specs.Room.{mostWaiting}
+use Rattle.wording.proofs.rows.put_items.Statement.{statement}
+use Rattle.wording.proofs.rows.put_items.Tie as tie
+
+pub put-items-spec : {M : Type 1} → statement M
+put-items-spec =
+    tie.close
+    (tie.spec
+    (λ buf₀ at list count n₀ i₀ buf n i. n ≤ max at mostWaiting)  -- Inv-loop
+    (λ buf₀ at list count n₀ i₀ buf n i. count - i)  -- μ-loop
+    (λ c. search needs)  -- loop-holds
+    (λ c κs. search needs)  -- put-joint-requires
+    (λ c κs. search needs)  -- put-item-requires
+    (λ c. search needs)  -- add-i
+    (λ c. search needs)  -- loop-less
+    (λ c. search needs)  -- loop-again
+    (λ c. search needs))  -- returns
