@@ -1,4 +1,6 @@
 // The front of one array copied over the front of another, whose rest stays.
+#![tactic(auto)]
+
 mod bytes;
 mod numbers;
 

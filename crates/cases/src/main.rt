@@ -1,5 +1,7 @@
 // Document 01's 'Cases to prove together' and PEP 508's own lines, run on the compiled readers. What the definitions say of the same texts is one statement
 // in proofs/Together.antt; it stands in this crate, above all readers, since a table has to compute the version rules, which the readers only cite.
+#![tactic(auto)]
+
 mod ask;
 mod typed;
 

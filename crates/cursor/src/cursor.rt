@@ -10,19 +10,19 @@ use text::{
     is_operator_word_byte, is_other, is_space, is_token_byte, is_word_byte,
 };
 
-#[derive(Drop)]
+#[derive(Clone, Copy)]
 pub enum Peek {
     Byte(u8),
     End,
 }
 
-#[derive(Drop)]
+#[derive(Clone, Copy)]
 pub enum Step {
     Byte(u8, Cursor),
     End,
 }
 
-#[derive(Drop)]
+#[derive(Clone, Copy)]
 pub struct Cursor {
     pub at: usize,
 }

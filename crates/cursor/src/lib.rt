@@ -1,4 +1,6 @@
 // The cursor with its moves and limits, and the check that comes before every reading.
+#![tactic(auto)]
+
 mod check;
 mod cursor;
 

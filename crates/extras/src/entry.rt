@@ -19,7 +19,7 @@ pub struct Extras {
 }
 
 // The quick answer: so many extras stand in the lent array.
-#[derive(Drop)]
+#[derive(Clone, Copy)]
 pub enum Counted {
     Read(usize),
     Refused(Refusal),

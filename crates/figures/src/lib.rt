@@ -1,5 +1,7 @@
 // An answer as numbers: how many figures each function of `gateway` leaves, where each of them stands, by name, and how a refusal is told.
 // bindings/c/hulmisker.h has the same numbers, and bindings/rust/tests/header.rs holds it to them.
+#![tactic(auto)]
+
 mod verdict;
 
 pub use verdict::{Verdict, accepted, refused, tell, tell_count, verdict_of};

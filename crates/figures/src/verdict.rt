@@ -9,7 +9,7 @@ use crate::{CountFigures, PlaceFigures};
 use refusal::{Outcome, Refusal};
 
 // A refusal's number, start and length; all 0 where there is none.
-#[derive(Drop)]
+#[derive(Clone, Copy)]
 pub struct Verdict {
     pub number: u8,
     pub start: usize,

@@ -66,7 +66,7 @@ pub extern "C" fn hulmisker_marker(
 }
 
 // Whether there is a URL, 1 or 0, and its span.
-#[derive(Drop)]
+#[derive(Clone, Copy)]
 struct Link {
     given: usize,
     start: usize,

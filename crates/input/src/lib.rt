@@ -1,4 +1,6 @@
 // The lines of a descriptor, one by one. Bytes are fetched many at a time into an array that the caller lends.
+#![tactic(auto)]
+
 ghost use Rattle.std.specs.Prelude.{min, ◌≡◌};
 
 pub const ROOM: usize = 65536;
@@ -7,27 +9,27 @@ pub const ROOM: usize = 65536;
 pub const HELD: usize = 20001;
 
 // Which bytes of the array are still to be taken.
-#[derive(Drop)]
+#[derive(Clone, Copy)]
 pub struct Feed {
     pub at: usize,
     pub end: usize,
 }
 
-#[derive(Drop)]
+#[derive(Clone, Copy)]
 pub enum Ended {
     ByLineFeed,
     ByEnd,
     ByFault,
 }
 
-#[derive(Drop)]
+#[derive(Clone, Copy)]
 enum Next {
     Byte { byte: u8, feed: Feed },
     End(Ended),
 }
 
 // The length is the line's own, without its LF; the last byte is 0 if it is empty.
-#[derive(Drop)]
+#[derive(Clone, Copy)]
 pub struct Line {
     pub feed: Feed,
     pub len: usize,

@@ -7,13 +7,13 @@ use line_head::{Head, Wanted, text_count};
 use marker_store::Counts;
 use refusal::Span;
 
-#[derive(Drop)]
+#[derive(Clone, Copy)]
 pub enum Url {
     Absent,
     At(Span),
 }
 
-#[derive(Drop)]
+#[derive(Clone, Copy)]
 pub struct Figures {
     pub name: Span,
     pub extras: usize,

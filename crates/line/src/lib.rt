@@ -1,4 +1,6 @@
 // The line reader's quick door: a whole requirement line as numbers in lent arrays. The typed door is `line_typed`'s.
+#![tactic(auto)]
+
 mod figures;
 mod quick;
 

@@ -19,7 +19,7 @@ use refusal::{Offset, Outcome, Refusal, Span};
 use spans::{LIST_NUMBERS, SpanNumbers};
 
 // On a refusal the counts are 0.
-#[derive(Drop)]
+#[derive(Clone, Copy)]
 pub struct QuickLine {
     pub outcome: Outcome,
     pub figures: Figures,

@@ -1,4 +1,6 @@
 // The extras at a place of a line.
+#![tactic(auto)]
+
 mod extra;
 mod extras;
 

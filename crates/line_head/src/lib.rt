@@ -1,4 +1,6 @@
 // The parts of a line before its marker: name, extras, URL or specifiers, and whether a marker follows.
+#![tactic(auto)]
+
 mod head;
 mod part;
 

@@ -13,21 +13,21 @@ use line_url::{Address, url_at};
 use refusal::{Fault, Refusal, Span};
 use spans::{Listed, SpanNumbers};
 
-#[derive(Drop)]
+#[derive(Clone, Copy)]
 pub enum Wanted {
     // So many specifiers, which may be none.
     Specifiers(usize),
     Url(Span),
 }
 
-#[derive(Drop)]
+#[derive(Clone, Copy)]
 pub enum Tail {
     End,
     // The place behind the `;`.
     Marker(Cursor),
 }
 
-#[derive(Drop)]
+#[derive(Clone, Copy)]
 pub struct Head {
     pub name: Span,
     pub extras: usize,
@@ -35,19 +35,19 @@ pub struct Head {
     pub tail: Tail,
 }
 
-#[derive(Drop)]
+#[derive(Clone, Copy)]
 pub enum HeadRead {
     Read(Head),
     Refused(Refusal),
 }
 
-#[derive(Drop)]
+#[derive(Clone, Copy)]
 pub enum WantedRead {
     Read(Wanted, Cursor),
     Refused(Refusal),
 }
 
-#[derive(Drop)]
+#[derive(Clone, Copy)]
 pub enum TailRead {
     Read(Tail),
     Refused(Refusal),

@@ -1,11 +1,13 @@
 // The name at a line's start.
+#![tactic(auto)]
+
 ghost use Rattle.std.specs.Prelude.{◌≡◌, ◌<◌, length};
 ghost use Rattle.line_name.specs.Name.{name_to, name_from, name_at, told};
 
 use cursor::Cursor;
 use refusal::{Fault, Refusal, Span};
 
-#[derive(Drop)]
+#[derive(Clone, Copy)]
 pub enum Named {
     // The name, and the place behind it.
     Read(Span, Cursor),

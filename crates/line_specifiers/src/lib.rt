@@ -1,4 +1,6 @@
 // The specifiers of a requirement, at a place of a line.
+#![tactic(auto)]
+
 mod specifier;
 mod specifiers;
 

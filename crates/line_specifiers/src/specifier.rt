@@ -8,7 +8,7 @@ use refusal::{Fault, Refusal};
 use spans::Item;
 use version::is_specifier;
 
-#[derive(Drop)]
+#[derive(Clone, Copy)]
 pub enum Form {
     // Up to `;` or the end.
     Bare,

@@ -1,4 +1,6 @@
 // The URL of a line.
+#![tactic(auto)]
+
 ghost use Rattle.std.specs.Prelude.{◌≡◌, ◌||◌, ◌-◌};
 ghost use Rattle.text.specs.Scan.{skip};
 ghost use Rattle.line_url.specs.Url.{is_blank, is_mark, closes_at, marked_at, url_end, goes_on, url_at, told};
@@ -6,7 +8,7 @@ ghost use Rattle.line_url.specs.Url.{is_blank, is_mark, closes_at, marked_at, ur
 use cursor::Cursor;
 use refusal::{Fault, Refusal, Span};
 
-#[derive(Drop)]
+#[derive(Clone, Copy)]
 pub enum Address {
     // The URL, and where reading goes on.
     Read(Span, Cursor),

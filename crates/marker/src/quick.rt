@@ -18,7 +18,7 @@ use program_check::MAX_WORDS;
 use refusal::{Outcome, Refusal};
 
 // On a refusal the counts are 0.
-#[derive(Drop)]
+#[derive(Clone, Copy)]
 pub struct Quick {
     pub outcome: Outcome,
     pub counts: Counts,

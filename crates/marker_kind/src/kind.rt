@@ -2,13 +2,13 @@
 use refusal::Span;
 
 // Whether an extra's literal can be normalised.
-#[derive(Drop)]
+#[derive(Clone, Copy)]
 pub enum ExtraKind {
     Normal,
     Arbitrary,
 }
 
-#[derive(Drop)]
+#[derive(Clone, Copy)]
 pub enum Sort {
     Version,
     VersionList,
@@ -17,7 +17,7 @@ pub enum Sort {
 }
 
 // The twelve names, in document 01's order.
-#[derive(Drop)]
+#[derive(Clone, Copy)]
 pub enum Key {
     PythonVersion,
     PythonFullVersion,
@@ -34,7 +34,7 @@ pub enum Key {
 }
 
 // Document 01's eight, then those that `not in` and mirroring give.
-#[derive(Drop)]
+#[derive(Clone, Copy)]
 pub enum Operator {
     Equal,
     NotEqual,
@@ -50,7 +50,7 @@ pub enum Operator {
 }
 
 // The literal's span lies inside its quotes.
-#[derive(Drop)]
+#[derive(Clone, Copy)]
 pub struct Comparison {
     pub sort: Sort,
     pub key: Key,

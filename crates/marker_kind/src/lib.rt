@@ -1,4 +1,6 @@
 // What a kept comparison holds, and the numbers of it.
+#![tactic(auto)]
+
 mod code;
 mod kind;
 

@@ -1,4 +1,6 @@
 // The steps of the marker reader that are no part of its cycle, and the grammar that they follow.
+#![tactic(auto)]
+
 mod part;
 mod step;
 

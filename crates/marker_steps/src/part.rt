@@ -8,21 +8,21 @@ use marker_store::Counts;
 use refusal::Refusal;
 
 // Where a part ended and whether anything of it was kept; or the first fault.
-#[derive(Drop)]
+#[derive(Clone, Copy)]
 pub enum Part {
     Read { next: Cursor, some: bool },
     Refused(Refusal),
 }
 
 // What an inner function answers: the lent arrays hold the rest. After a refusal they hold anything.
-#[derive(Drop)]
+#[derive(Clone, Copy)]
 pub struct Progress {
     pub part: Part,
     pub counts: Counts,
 }
 
 // Whether a chain goes on: behind its joining word, with whether its left side kept anything.
-#[derive(Drop)]
+#[derive(Clone, Copy)]
 pub enum Onward {
     On(Cursor, bool),
     Stop,

@@ -1,4 +1,6 @@
 // How what is read of a marker stands in arrays of numbers: the widths, the places and the rooms by name, one store and one load of a comparison and of a warning.
+#![tactic(auto)]
+
 mod load;
 mod marks;
 mod room;

@@ -2,14 +2,14 @@
 use refusal::Span;
 
 // What a marker warns of, and where. The kind is document 01's number, 1 to 5.
-#[derive(Drop)]
+#[derive(Clone, Copy)]
 pub struct Warning {
     pub kind: usize,
     pub span: Span,
 }
 
 // How many comparisons were kept, how many warnings were given, how many words the program has.
-#[derive(Drop)]
+#[derive(Clone, Copy)]
 pub struct Counts {
     pub kept: usize,
     pub warned: usize,

@@ -1,4 +1,6 @@
 // The marker reader's typed door: what the cycle reads of a lent line, by value, for callers in Rattle.
+#![tactic(auto)]
+
 mod door;
 mod gather;
 

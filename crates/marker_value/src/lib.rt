@@ -1,4 +1,6 @@
 // The two values of a marker's comparison and the operator between them, as they are read.
+#![tactic(auto)]
+
 mod operator;
 mod value;
 

@@ -9,13 +9,13 @@ use marker_kind::Operator;
 use refusal::{Fault, Refusal, Span};
 use text::{byte_at, has, is_letter, is_space, spelled};
 
-#[derive(Drop)]
+#[derive(Clone, Copy)]
 pub enum Symbol {
     Known(Operator),
     Unknown,
 }
 
-#[derive(Drop)]
+#[derive(Clone, Copy)]
 pub enum Between {
     Operator(Operator, Cursor),
     Fault(Refusal),

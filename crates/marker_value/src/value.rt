@@ -9,7 +9,7 @@ use marker_kind::Key;
 use refusal::{Fault, Refusal, Span};
 use text::{byte_at, is_quote, spelled};
 
-#[derive(Drop)]
+#[derive(Clone, Copy)]
 pub enum Value {
     Version(Key),
     String(Key),
@@ -18,13 +18,13 @@ pub enum Value {
 }
 
 // Which value a name is, if it is one of the twelve.
-#[derive(Drop)]
+#[derive(Clone, Copy)]
 pub enum Named {
     Known(Value),
     Unknown,
 }
 
-#[derive(Drop)]
+#[derive(Clone, Copy)]
 pub enum Taken {
     Value(Value, Cursor),
     Fault(Refusal),

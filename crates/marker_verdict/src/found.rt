@@ -10,7 +10,7 @@ use marker_kind::Operator;
 use marker_value::{Between, Taken, Value, operator_at, value_at};
 use refusal::{Refusal, Span};
 
-#[derive(Drop)]
+#[derive(Clone, Copy)]
 pub enum Found {
     Comparison {
         verdict: Verdict,

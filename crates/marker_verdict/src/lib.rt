@@ -1,4 +1,6 @@
 // What a comparison comes to, from its two values and its operator, and one comparison at a place.
+#![tactic(auto)]
+
 mod found;
 mod verdict;
 

@@ -11,7 +11,7 @@ use refusal::Span;
 use version::{goes_with, is_version, is_version_list};
 
 // A kept comparison, without a warning or with one of kind 4; or an ignored one, with one or two warnings of a kind.
-#[derive(Drop)]
+#[derive(Clone, Copy)]
 pub enum Verdict {
     Kept(Comparison),
     KeptWarned(Comparison),

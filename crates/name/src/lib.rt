@@ -1,4 +1,6 @@
 // The normal form of a name.
+#![tactic(auto)]
+
 ghost use Rattle.std.specs.Prelude.{◌≡◌, ◌≤◌, ◌<◌, length, drop};
 ghost use Rattle.arrays.specs.Front.{onto};
 ghost use Rattle.text.specs.Class.{is_name_byte};
@@ -9,7 +11,7 @@ ghost use Rattle.name.specs.Normalise.{normalised, output, told};
 use cursor::Cursor;
 use refusal::{Fault, Refusal};
 
-#[derive(Drop)]
+#[derive(Clone, Copy)]
 pub enum Normalised {
     // So many bytes stand at the output's front.
     Written(usize),

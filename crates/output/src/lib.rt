@@ -1,5 +1,7 @@
 // Text on its way to standard output. It is gathered in an array that the caller lends, so that one write moves much of it. Each function takes how many
 // bytes wait there and answers how many wait afterwards; a full array is written out first.
+#![tactic(auto)]
+
 ghost use Rattle.std.specs.Prelude.{◌⊎◌, ◌≡◌, ◌≤◌, max};
 ghost use Rattle.output.specs.Room.{most_waiting};
 

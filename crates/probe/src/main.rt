@@ -1,4 +1,6 @@
 // Answers the requests of standard input, a line each: what each entry says to the bytes that a request spells. oracle/compare.py asks it.
+#![tactic(auto)]
+
 use input::{Ended, Feed, HELD};
 use libc::STDIN_FILENO;
 use output::ROOM;

@@ -1,25 +1,27 @@
 // Checks and runs the programs of standard input, and compares with the answers that stand beside them. make.py writes them, and says what a line is.
+#![tactic(auto)]
+
 ghost use Rattle.std.specs.Prelude.{◌≤◌, ◌<◌};
 
 use libc::{STDIN_FILENO, STDOUT_FILENO};
 use program_run::Ran;
 use refusal::{Outcome, Refusal};
 
-#[derive(Drop)]
+#[derive(Clone, Copy)]
 enum Compared {
     End,
     Same,
     Differs,
 }
 
-#[derive(Drop)]
+#[derive(Clone, Copy)]
 struct Tally {
     cases: u64,
     differ: u64,
 }
 
 // An answer in document 01's numbers; a number of 0 is none.
-#[derive(Drop)]
+#[derive(Clone, Copy)]
 struct Told {
     number: u8,
     start: u64,

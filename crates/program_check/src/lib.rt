@@ -1,4 +1,6 @@
 // Marker programs: their words, and the stack rules that a program is checked by.
+#![tactic(auto)]
+
 mod rules;
 mod word;
 

@@ -16,7 +16,7 @@ pub const MAX_WORDS: usize = 127;
 pub const MAX_SLOTS: usize = 35;
 
 // How far a program keeps to the rules, and how many values stand there.
-#[derive(Drop)]
+#[derive(Clone, Copy)]
 struct Reach {
     at: usize,
     height: usize,

@@ -5,7 +5,7 @@ ghost use Rattle.program_check.specs.Word.{word};
 
 use refusal::ComparisonNumber;
 
-#[derive(Drop)]
+#[derive(Clone, Copy)]
 pub enum Word {
     // Pushes the comparison of this number.
     Push(ComparisonNumber),

@@ -9,7 +9,7 @@ use cursor::Cursor;
 use program_check::{MAX_SLOTS, Word, check, is_operator, word_of};
 use refusal::{ComparisonNumber, Outcome, Refusal};
 
-#[derive(Drop)]
+#[derive(Clone, Copy)]
 pub enum Ran {
     Answer(bool),
     Refused(Refusal),

@@ -3,7 +3,7 @@
 // A path of the most bytes that the system takes.
 pub const PATH: usize = 4095;
 
-#[derive(Drop)]
+#[derive(Clone, Copy)]
 pub enum Argument {
     Plain,
     NamesFollow,
@@ -13,7 +13,7 @@ pub enum Argument {
 }
 
 // Options may stand up to `--`.
-#[derive(Drop)]
+#[derive(Clone, Copy)]
 pub struct Wanted {
     pub plain: bool,
     pub unknown: bool,

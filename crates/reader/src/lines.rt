@@ -15,7 +15,7 @@ use program_check::MAX_WORDS;
 use spans::{LIST_NUMBERS, SpanNumbers};
 
 // How far reading came: what waits in the output, and whether a read failed.
-#[derive(Drop)]
+#[derive(Clone, Copy)]
 pub struct Come {
     pub at: usize,
     pub failed: bool,
@@ -236,7 +236,7 @@ fn read_one(
 }
 
 // What the input gave: a line of a length, without the CR before its LF, or none. A last line without LF is one; what stands before a fault is none, since it may be cut.
-#[derive(Drop)]
+#[derive(Clone, Copy)]
 enum Taken {
     Line(usize),
     End,

@@ -1,4 +1,6 @@
 // Reads requirement lines from files or from standard input, and says of each what it is or why and where it is refused.
+#![tactic(auto)]
+
 mod accepted;
 mod arguments;
 mod details;

@@ -2,7 +2,7 @@
 use input::HELD;
 
 // The bytes from one place up to another.
-#[derive(Drop)]
+#[derive(Clone, Copy)]
 pub struct Part {
     pub from: usize,
     pub to: usize,

@@ -3,14 +3,14 @@ use crate::arguments::PATH;
 use output::{ROOM, put, put_number, put_text};
 
 // How it is told: as rows for other tools, and with the file's name where there are several.
-#[derive(Drop)]
+#[derive(Clone, Copy)]
 pub struct Style {
     pub plain: bool,
     pub named: bool,
 }
 
 // The file's name is the front of an array that goes with this.
-#[derive(Drop)]
+#[derive(Clone, Copy)]
 pub struct Place {
     pub named: bool,
     pub path_len: usize,

@@ -5,7 +5,7 @@ ghost use Rattle.refusal.specs.Refusal.{fault_number, refusal};
 use crate::place::{Offset, Span};
 
 // A variant for each number of documents 01 (1 to 31) and 02 (32 to 41), in their order.
-#[derive(Drop)]
+#[derive(Clone, Copy)]
 pub enum Fault {
     TooLong,
     NotAscii,
@@ -50,7 +50,7 @@ pub enum Fault {
     PieceLong,
 }
 
-#[derive(Drop)]
+#[derive(Clone, Copy)]
 pub struct Refusal {
     pub fault: Fault,
     pub span: Span,
@@ -69,7 +69,7 @@ impl Refusal {
 }
 
 // Whether an input is good; what was read of it stands beside.
-#[derive(Drop)]
+#[derive(Clone, Copy)]
 pub enum Outcome {
     Good,
     Refused(Refusal),

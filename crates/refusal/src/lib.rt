@@ -1,4 +1,6 @@
 // Places, refusals and their numbers: what every answer is told in.
+#![tactic(auto)]
+
 mod fault;
 mod place;
 

@@ -1,14 +1,14 @@
 // Places in a line, and numbers in a program: two types, so that one cannot be taken for the other.
 
 // A place in the line, in bytes from its start.
-#[derive(Drop)]
+#[derive(Clone, Copy)]
 pub struct Offset(pub usize);
 
 // A comparison's number in a program.
-#[derive(Drop)]
+#[derive(Clone, Copy)]
 pub struct ComparisonNumber(pub u8);
 
-#[derive(Drop)]
+#[derive(Clone, Copy)]
 pub struct Span {
     pub start: Offset,
     pub len: usize,

@@ -1,5 +1,7 @@
 // Answers the requests of a list once more and compares with the answers that stand beside them. A line of standard input is a request, a tab and the answer;
 // oracle/make_replay.py writes them.
+#![tactic(auto)]
+
 use input::{Ended, Feed, HELD};
 use libc::STDIN_FILENO;
 use output::ROOM;
@@ -8,7 +10,7 @@ use requests::{DATA, OUT};
 // So many cases that differ are written out.
 const SHOWN: u64 = 5;
 
-#[derive(Drop)]
+#[derive(Clone, Copy)]
 struct Tally {
     cases: u64,
     differ: u64,

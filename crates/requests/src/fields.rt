@@ -5,7 +5,7 @@ use crate::{DATA, MOST};
 use cursor::Cursor;
 use text::{byte_at, word_at};
 
-#[derive(Drop)]
+#[derive(Clone, Copy)]
 pub enum Entry {
     Bad,
     Line,
@@ -19,7 +19,7 @@ pub enum Entry {
     Run,
 }
 
-#[derive(Drop)]
+#[derive(Clone, Copy)]
 pub struct Request {
     pub entry: Entry,
     pub first: u64,
@@ -28,7 +28,7 @@ pub struct Request {
 }
 
 // The entry, where its fields start, and how many numbers come before the bytes.
-#[derive(Drop)]
+#[derive(Clone, Copy)]
 struct Head {
     entry: Entry,
     at: usize,
@@ -36,25 +36,25 @@ struct Head {
 }
 
 // A number, and where the next field starts.
-#[derive(Drop)]
+#[derive(Clone, Copy)]
 struct Number {
     value: u64,
     after: usize,
 }
 
-#[derive(Drop)]
+#[derive(Clone, Copy)]
 enum Value {
     Fits(u64),
     Bad,
 }
 
-#[derive(Drop)]
+#[derive(Clone, Copy)]
 enum Pair {
     Byte(u8),
     Bad,
 }
 
-#[derive(Drop)]
+#[derive(Clone, Copy)]
 enum Bytes {
     Spelled(usize),
     Bad,

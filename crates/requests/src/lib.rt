@@ -1,4 +1,6 @@
 // The protocol of `probe`: one request line in, one answer out. docs/DECISIONS.md says what a request is.
+#![tactic(auto)]
+
 ghost use Rattle.std.specs.Prelude.{◌≤◌, max};
 ghost use Rattle.output.specs.Room.{most_waiting};
 

@@ -2,7 +2,7 @@
 use cursor::Cursor;
 use refusal::{Refusal, Span};
 
-#[derive(Drop)]
+#[derive(Clone, Copy)]
 pub enum Item {
     // A span of the list, and where its next item is read.
     One(Span, Cursor),
@@ -11,7 +11,7 @@ pub enum Item {
     Refused(Refusal),
 }
 
-#[derive(Drop)]
+#[derive(Clone, Copy)]
 pub enum Listed {
     // So many spans, and where reading goes on.
     Read(usize, Cursor),

@@ -1,4 +1,6 @@
 // Lists of at most 32 spans, read into a lent array of numbers: a start and a length for each.
+#![tactic(auto)]
+
 mod item;
 mod store;
 

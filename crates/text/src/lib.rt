@@ -1,4 +1,6 @@
 // Bytes of a line: their classes, what stands at a place, and fixed words.
+#![tactic(auto)]
+
 mod class;
 mod place;
 mod word;

@@ -9,7 +9,7 @@ use version_number::number_end;
 use version_parts::{dev_end, epoch_end, local_end, post_end, pre_end, release_end, v_end};
 
 // The place behind each part, in the order of the parts; a part that is not there ends where the one before it does.
-#[derive(Drop)]
+#[derive(Clone, Copy)]
 pub struct Layout {
     // White space and `v`.
     pub start: usize,

@@ -1,4 +1,6 @@
 // PEP 440: what a version, a pattern and a specifier are. One reading finds where each part stands; every question is asked of that.
+#![tactic(auto)]
+
 mod layout;
 mod list;
 mod rules;

@@ -1,10 +1,12 @@
 // Offers each text of the list on standard input to its entry, holds it to the answer that stands before it, and counts those that differ.
+#![tactic(auto)]
+
 ghost use Rattle.std.specs.Prelude.{◌≤◌, length};
 
 use libc::{STDIN_FILENO, STDOUT_FILENO};
 use refusal::Outcome;
 
-#[derive(Drop)]
+#[derive(Clone, Copy)]
 struct Tally {
     cases: u64,
     differ: u64,

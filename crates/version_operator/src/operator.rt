@@ -6,7 +6,7 @@ use refusal::Span;
 use text::spelled;
 
 // In document 01's order.
-#[derive(Drop)]
+#[derive(Clone, Copy)]
 pub enum Operator {
     LessEqual,
     Less,
@@ -18,14 +18,14 @@ pub enum Operator {
     Exact,
 }
 
-#[derive(Drop)]
+#[derive(Clone, Copy)]
 pub enum Token {
     Known(Operator),
     Unknown,
 }
 
 // Whether an operator takes `.*`, takes a local part, and needs two release numbers.
-#[derive(Drop)]
+#[derive(Clone, Copy)]
 pub struct Takes {
     pub star: bool,
     pub local: bool,

@@ -1,4 +1,6 @@
 // PEP 440: the parts of a version. Each function says where the part that may stand at a place ends.
+#![tactic(auto)]
+
 mod local;
 mod part;
 mod release;

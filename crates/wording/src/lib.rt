@@ -1,4 +1,6 @@
 // What was read, in words: the codes of a comparison, and whole answers as a row of text.
+#![tactic(auto)]
+
 mod rows;
 mod words;
 
