@@ -1,7 +1,10 @@
-// The lines of a descriptor, one by one. Bytes are fetched many at a time into an array that the caller lends.
+// The lines of what is read, one by one. Bytes are fetched many at a time into an array that the caller lends.
 #![tactic(auto)]
 
-ghost use Rattle.std.specs.Prelude.{min, ◌≡◌};
+ghost use Rattle.std.specs.Prelude.{min, ◌≡◌, ◌≤◌, length};
+
+use std::io;
+use std::io::Read;
 
 pub const ROOM: usize = 65536;
 
@@ -19,7 +22,7 @@ pub struct Feed {
 pub enum Ended {
     ByLineFeed,
     ByEnd,
-    ByFault,
+    ByFault(io::Error),
 }
 
 #[derive(Clone, Copy)]
@@ -55,19 +58,15 @@ fn first_byte(buf: &[u8; ROOM], end: usize) -> Next {
 }
 
 // A read that answers nothing is the end, and one that fails a fault.
-fn fetch(fd: i32, buf: &mut [u8; ROOM]) -> Next {
-    let got = libc::read(fd, buf);
-    if got < 0 {
-        return Next::End(Ended::ByFault);
+fn fetch<R: Read>(from: &mut R, buf: &mut [u8; ROOM]) -> Next {
+    match from.read(buf) {
+        Ok(0) => Next::End(Ended::ByEnd),
+        Ok(n) => first_byte(buf, n),
+        Err(why) => Next::End(Ended::ByFault(why)),
     }
-    if got == 0 {
-        return Next::End(Ended::ByEnd);
-    }
-    let n = io::count(got, buf);
-    first_byte(buf, n)
 }
 
-fn next_byte(fd: i32, buf: &mut [u8; ROOM], feed: Feed) -> Next {
+fn next_byte<R: Read>(from: &mut R, buf: &mut [u8; ROOM], feed: Feed) -> Next {
     let at = feed.at;
     if at < feed.end && at < ROOM {
         return Next::Byte {
@@ -78,7 +77,7 @@ fn next_byte(fd: i32, buf: &mut [u8; ROOM], feed: Feed) -> Next {
             },
         };
     }
-    fetch(fd, buf)
+    fetch(from, buf)
 }
 
 fn hold(line: &mut [u8; HELD], at: usize, byte: u8) {
@@ -100,14 +99,19 @@ fn line_of(feed: Feed, len: usize, last: u8, ended: Ended) -> Line
 }
 
 // The next line: its front is held in the lent array. A loop that is proved must end, so it counts, up to a length that no line has.
-pub fn take_line(fd: i32, buf: &mut [u8; ROOM], feed: Feed, line: &mut [u8; HELD]) -> Line
+pub fn take_line<R: Read>(
+    from: &mut R,
+    buf: &mut [u8; ROOM],
+    feed: Feed,
+    line: &mut [u8; HELD],
+) -> Line
     ensures { result.held ≡ min result.len 20001 }
 {
     let mut rest = feed;
     let mut len: usize = 0;
     let mut last: u8 = 0;
     while len < usize::MAX {
-        match next_byte(fd, buf, rest) {
+        match next_byte(from, buf, rest) {
             Next::End(ended) => {
                 return line_of(rest, len, last, ended);
             }
@@ -123,4 +127,19 @@ pub fn take_line(fd: i32, buf: &mut [u8; ROOM], feed: Feed, line: &mut [u8; HELD
         }
     }
     line_of(rest, len, last, Ended::ByEnd)
+}
+
+// Reads until the array is full, the input ends or a read fails, and says how many bytes stand at the front then.
+pub fn read_full<R: Read>(from: &mut R, buf: &mut [u8]) -> usize
+    ensures { result ≤ length buf.new }
+{
+    let mut done: usize = 0;
+    while done < buf.len() {
+        match from.read(&mut buf[done..]) {
+            Ok(0) => return done,
+            Ok(n) => done += n,
+            Err(_) => return done,
+        }
+    }
+    done
 }
