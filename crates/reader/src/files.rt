@@ -6,7 +6,7 @@ use crate::plain::put_not_read_row;
 use crate::tally::{COUNTS, NOT_READ, count};
 use input::HELD;
 use libc::STDIN_FILENO;
-use output::{ROOM, flush};
+use output::{Streams, ROOM, flush};
 
 fn open_front(path: &[u8], n: usize) -> i32 {
     if n <= path.len() {
@@ -32,6 +32,7 @@ fn tell_failure(path: &[u8], n: usize) {
 
 // Names the file and why it was not read to its end.
 fn not_read(
+    streams: Streams,
     style: Style,
     path: &[u8; PATH],
     n: usize,
@@ -49,11 +50,12 @@ fn not_read(
         path_len: n,
         number: 0,
     };
-    put_not_read_row(out, at, path, place)
+    put_not_read_row(streams, out, at, path, place)
 }
 
 // What waits is written before a fault is told, so that the two come in order.
 fn end_file(
+    streams: Streams,
     come: Come,
     style: Style,
     path: &[u8; PATH],
@@ -61,15 +63,16 @@ fn end_file(
     counts: &mut [u64; COUNTS],
     out: &mut [u8; ROOM],
 ) -> usize {
-    let at = flush(out, come.at);
+    let at = flush(streams, out, come.at);
     if come.failed {
-        not_read(style, path, n, counts, out, at)
+        not_read(streams, style, path, n, counts, out, at)
     } else {
         at
     }
 }
 
 fn read_input(
+    streams: Streams,
     style: Style,
     path: &[u8; PATH],
     n: usize,
@@ -79,11 +82,12 @@ fn read_input(
     out: &mut [u8; ROOM],
     at: usize,
 ) -> usize {
-    let come = read_lines(STDIN_FILENO, style, path, n, fetched, line, counts, out, at);
-    end_file(come, style, path, n, counts, out)
+    let come = read_lines(streams, STDIN_FILENO, style, path, n, fetched, line, counts, out, at);
+    end_file(streams, come, style, path, n, counts, out)
 }
 
 fn read_file(
+    streams: Streams,
     style: Style,
     path: &[u8; PATH],
     n: usize,
@@ -95,10 +99,10 @@ fn read_file(
 ) -> usize {
     let fd = open(path, n);
     if fd < 0 {
-        return not_read(style, path, n, counts, out, at);
+        return not_read(streams, style, path, n, counts, out, at);
     }
-    let come = read_lines(fd, style, path, n, fetched, line, counts, out, at);
-    let waits = end_file(come, style, path, n, counts, out);
+    let come = read_lines(streams, fd, style, path, n, fetched, line, counts, out, at);
+    let waits = end_file(streams, come, style, path, n, counts, out);
     libc::close(fd);
     waits
 }
@@ -109,6 +113,7 @@ fn name_input(path: &mut [u8; PATH]) -> usize {
 }
 
 fn read_argument(
+    streams: Streams,
     style: Style,
     path: &[u8; PATH],
     n: usize,
@@ -120,8 +125,8 @@ fn read_argument(
     at: usize,
 ) -> usize {
     match argument_of(path, n, names_only) {
-        Argument::File => read_file(style, path, n, fetched, line, counts, out, at),
-        Argument::Input => read_input(style, path, n, fetched, line, counts, out, at),
+        Argument::File => read_file(streams, style, path, n, fetched, line, counts, out, at),
+        Argument::Input => read_input(streams, style, path, n, fetched, line, counts, out, at),
         Argument::NamesFollow => at,
         Argument::Plain => at,
         Argument::Unknown => at,
@@ -129,6 +134,7 @@ fn read_argument(
 }
 
 fn read_arguments(
+    streams: Streams,
     style: Style,
     path: &mut [u8; PATH],
     fetched: &mut [u8; input::ROOM],
@@ -142,7 +148,7 @@ fn read_arguments(
     let mut i: usize = 1;
     while i < end {
         let n = take(i, path);
-        at = read_argument(style, path, n, names_only, fetched, line, counts, out, at);
+        at = read_argument(streams, style, path, n, names_only, fetched, line, counts, out, at);
         names_only = names_only | ends_options(path, n);
         i += 1;
     }
@@ -151,6 +157,7 @@ fn read_arguments(
 
 // Standard input, where no file is named. Answers what waits in the output.
 pub fn read_all(
+    streams: Streams,
     plain: bool,
     files: usize,
     path: &mut [u8; PATH],
@@ -165,7 +172,7 @@ pub fn read_all(
     };
     if files == 0 {
         let n = name_input(path);
-        return read_input(style, path, n, fetched, line, counts, out, 0);
+        return read_input(streams, style, path, n, fetched, line, counts, out, 0);
     }
-    read_arguments(style, path, fetched, line, counts, out)
+    read_arguments(streams, style, path, fetched, line, counts, out)
 }

@@ -10,7 +10,7 @@ use figures::{LENGTH, LINE_FIGURES, LineFigures, START};
 use input::{Ended, Feed, HELD};
 use libc::{STDERR_FILENO, STDOUT_FILENO};
 use marker_store::{COMPARISONS_ROOM, Comparisons, WARNINGS_ROOM, Warnings, Words};
-use output::ROOM;
+use output::{ROOM, Streams};
 use program_check::MAX_WORDS;
 use spans::{LIST_NUMBERS, SpanNumbers};
 
@@ -93,6 +93,7 @@ fn read_held(
 }
 
 fn tell_refused(
+    streams: Streams,
     style: Style,
     path: &[u8; PATH],
     place: Place,
@@ -104,7 +105,7 @@ fn tell_refused(
     at: usize,
 ) -> usize {
     if style.plain {
-        put_refused_row(
+        put_refused_row(streams, 
             out,
             at,
             path,
@@ -114,11 +115,12 @@ fn tell_refused(
             figures[LENGTH],
         )
     } else {
-        put_refused(out, at, path, place, line, len, number, figures)
+        put_refused(streams, out, at, path, place, line, len, number, figures)
     }
 }
 
 fn tell_accepted(
+    streams: Streams,
     style: Style,
     path: &[u8; PATH],
     place: Place,
@@ -134,7 +136,7 @@ fn tell_accepted(
     at: usize,
 ) -> usize {
     if style.plain {
-        put_accepted_row(
+        put_accepted_row(streams, 
             out,
             at,
             path,
@@ -149,7 +151,7 @@ fn tell_accepted(
             normal,
         )
     } else {
-        put_accepted(
+        put_accepted(streams, 
             out,
             at,
             path,
@@ -168,6 +170,7 @@ fn tell_accepted(
 
 // The arrays for what is read stand here, so that no function above takes them: they are small beside what is written of a line.
 fn tell_line(
+    streams: Streams,
     style: Style,
     path: &[u8; PATH],
     place: Place,
@@ -196,9 +199,9 @@ fn tell_line(
     );
     count(counts, number as usize);
     if number > 0 {
-        return tell_refused(style, path, place, line, len, number, &figures, out, at);
+        return tell_refused(streams, style, path, place, line, len, number, &figures, out, at);
     }
-    tell_accepted(
+    tell_accepted(streams, 
         style,
         path,
         place,
@@ -216,6 +219,7 @@ fn tell_line(
 }
 
 fn read_one(
+    streams: Streams,
     style: Style,
     path: &[u8; PATH],
     place: Place,
@@ -232,7 +236,7 @@ fn read_one(
         count(counts, PASSED_OVER);
         return at;
     }
-    tell_line(style, path, place, line, len, counts, normal, out, at)
+    tell_line(streams, style, path, place, line, len, counts, normal, out, at)
 }
 
 // What the input gave: a line of a length, without the CR before its LF, or none. A last line without LF is one; what stands before a fault is none, since it may be cut.
@@ -264,6 +268,7 @@ fn taken_of(ended: Ended, len: usize, last: u8) -> Taken {
 }
 
 fn each_line(
+    streams: Streams,
     fd: i32,
     style: Style,
     path: &[u8; PATH],
@@ -302,7 +307,7 @@ fn each_line(
                     path_len,
                     number,
                 };
-                n = read_one(style, path, place, line, len, counts, normal, out, n);
+                n = read_one(streams, style, path, place, line, len, counts, normal, out, n);
             }
         }
     }
@@ -314,6 +319,7 @@ fn each_line(
 
 // Room for a name's normal form stands here, once for a file.
 pub fn read_lines(
+    streams: Streams,
     fd: i32,
     style: Style,
     path: &[u8; PATH],
@@ -325,7 +331,7 @@ pub fn read_lines(
     at: usize,
 ) -> Come {
     let mut normal = [0u8; NAME];
-    each_line(
+    each_line(streams, 
         fd,
         style,
         path,

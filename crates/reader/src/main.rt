@@ -17,7 +17,7 @@ mod tally;
 use arguments::PATH;
 use input::HELD;
 use libc::STDERR_FILENO;
-use output::ROOM;
+use output::{ROOM, Streams};
 use tally::COUNTS;
 
 fn usage() {
@@ -28,13 +28,13 @@ fn usage() {
 }
 
 // The last line: what was counted. Rows are for other tools and have none.
-fn end(plain: bool, counts: &[u64; COUNTS], out: &mut [u8; ROOM], at: usize) {
+fn end(streams: Streams, plain: bool, counts: &[u64; COUNTS], out: &mut [u8; ROOM], at: usize) {
     let n = if plain {
         at
     } else {
-        tally::put_tally(counts, out, at)
+        tally::put_tally(streams, counts, out, at)
     };
-    output::flush(out, n);
+    output::flush(streams, out, n);
 }
 
 fn run(plain: bool, files: usize, path: &mut [u8; PATH]) {
@@ -42,7 +42,7 @@ fn run(plain: bool, files: usize, path: &mut [u8; PATH]) {
     let mut line = [0u8; HELD];
     let mut out = [0u8; ROOM];
     let mut counts = [0u64; COUNTS];
-    let at = files::read_all(
+    let at = files::read_all(streams, 
         plain,
         files,
         path,
@@ -51,7 +51,7 @@ fn run(plain: bool, files: usize, path: &mut [u8; PATH]) {
         &mut counts,
         &mut out,
     );
-    end(plain, &counts, &mut out, at);
+    end(streams, plain, &counts, &mut out, at);
 }
 
 fn main() {
