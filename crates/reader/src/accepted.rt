@@ -12,7 +12,7 @@ use figures::{
 };
 use input::HELD;
 use marker_store::{Comparisons, Warnings, Words};
-use output::{Streams, ROOM, put, put_part, put_text};
+use output::{ROOM, Streams, put, put_part, put_text};
 use spans::SpanNumbers;
 
 // As long as a name can be.
@@ -31,7 +31,13 @@ fn normalise_held(line: &[u8; HELD], start: usize, len: usize, normal: &mut [u8;
     normalise(line, start, sum(start, len), normal)
 }
 
-fn put_front(streams: Streams, out: &mut [u8; ROOM], at: usize, text: &[u8; NAME], n: usize) -> usize {
+fn put_front(
+    streams: Streams,
+    out: &mut [u8; ROOM],
+    at: usize,
+    text: &[u8; NAME],
+    n: usize,
+) -> usize {
     put_part(streams, out, at, text, 0, n)
 }
 
@@ -48,7 +54,13 @@ pub fn put_normal_name(
     put_front(streams, out, at, normal, n)
 }
 
-fn put_url(streams: Streams, out: &mut [u8; ROOM], at: usize, line: &[u8; HELD], figures: &LineFigures) -> usize {
+fn put_url(
+    streams: Streams,
+    out: &mut [u8; ROOM],
+    at: usize,
+    line: &[u8; HELD],
+    figures: &LineFigures,
+) -> usize {
     if figures[LINE_HAS_URL] == 0 {
         return at;
     }
@@ -75,13 +87,36 @@ pub fn put_accepted(
 ) -> usize {
     let n = put_heading(streams, out, at, path, place, b"accepted ");
     let name = figures[LINE_NAME_START];
-    let n = put_normal_name(streams, out, n, line, name, figures[LINE_NAME_LENGTH], normal);
+    let n = put_normal_name(
+        streams,
+        out,
+        n,
+        line,
+        name,
+        figures[LINE_NAME_LENGTH],
+        normal,
+    );
     let n = put(streams, out, n, b'\n');
-    let n = put_spans(streams, out, n, b"    extras:", line, extras, figures[LINE_EXTRAS]);
+    let n = put_spans(
+        streams,
+        out,
+        n,
+        b"    extras:",
+        line,
+        extras,
+        figures[LINE_EXTRAS],
+    );
     let texts = figures[LINE_SPECIFIERS];
     let n = put_spans(streams, out, n, b"    specifiers:", line, specifiers, texts);
     let n = put_url(streams, out, n, line, figures);
-    let n = put_comparisons(streams, out, n, line, comparisons, figures[LINE_COMPARISONS]);
+    let n = put_comparisons(
+        streams,
+        out,
+        n,
+        line,
+        comparisons,
+        figures[LINE_COMPARISONS],
+    );
     let n = put_warnings(streams, out, n, line, warnings, figures[LINE_WARNINGS]);
     put_program(streams, out, n, words, figures[LINE_WORDS])
 }

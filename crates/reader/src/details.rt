@@ -6,14 +6,20 @@ use cursor::Cursor;
 use input::HELD;
 use marker_kind::Comparison;
 use marker_store::{Comparisons, Warnings, Words, load_comparison, load_warning};
-use output::{Streams, ROOM, put, put_number, put_text};
+use output::{ROOM, Streams, put, put_number, put_text};
 use program_check::MAX_WORDS;
 use refusal::Span;
 use spans::{SPAN_NUMBERS, SpanNumbers};
 use wording::{put_key, put_operator, put_sort};
 
 // Where something stands in its line.
-pub fn put_place(streams: Streams, out: &mut [u8; ROOM], at: usize, start: usize, len: usize) -> usize {
+pub fn put_place(
+    streams: Streams,
+    out: &mut [u8; ROOM],
+    at: usize,
+    start: usize,
+    len: usize,
+) -> usize {
     let n = put_text(streams, out, at, b" at ");
     let n = put_number(streams, out, n, start as u64);
     let n = put_text(streams, out, n, b", ");
@@ -195,7 +201,13 @@ fn put_word(streams: Streams, out: &mut [u8; ROOM], at: usize, word: u8) -> usiz
     }
 }
 
-fn put_numbers(streams: Streams, out: &mut [u8; ROOM], at: usize, words: &Words, count: usize) -> usize {
+fn put_numbers(
+    streams: Streams,
+    out: &mut [u8; ROOM],
+    at: usize,
+    words: &Words,
+    count: usize,
+) -> usize {
     let mut n = at;
     let mut i: usize = 0;
     while i < count {
@@ -206,7 +218,13 @@ fn put_numbers(streams: Streams, out: &mut [u8; ROOM], at: usize, words: &Words,
     n
 }
 
-fn put_words(streams: Streams, out: &mut [u8; ROOM], at: usize, words: &Words, count: usize) -> usize {
+fn put_words(
+    streams: Streams,
+    out: &mut [u8; ROOM],
+    at: usize,
+    words: &Words,
+    count: usize,
+) -> usize {
     let mut n = at;
     let mut i: usize = 0;
     while i < count {
@@ -218,7 +236,13 @@ fn put_words(streams: Streams, out: &mut [u8; ROOM], at: usize, words: &Words, c
 }
 
 // The words as numbers, and once more with the operators by name.
-pub fn put_program(streams: Streams, out: &mut [u8; ROOM], at: usize, words: &Words, count: usize) -> usize {
+pub fn put_program(
+    streams: Streams,
+    out: &mut [u8; ROOM],
+    at: usize,
+    words: &Words,
+    count: usize,
+) -> usize {
     let n = put_text(streams, out, at, b"    program:");
     let n = put_numbers(streams, out, n, words, count);
     let n = put_text(streams, out, n, b" =");

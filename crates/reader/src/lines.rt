@@ -8,28 +8,29 @@ use crate::refused::put_refused;
 use crate::tally::{COUNTS, LINES, PASSED_OVER, count, counted};
 use figures::{LENGTH, LINE_FIGURES, LineFigures, START};
 use input::{Ended, Feed, HELD};
-use libc::{STDERR_FILENO, STDOUT_FILENO};
 use marker_store::{COMPARISONS_ROOM, Comparisons, WARNINGS_ROOM, Warnings, Words};
 use output::{ROOM, Streams};
 use program_check::MAX_WORDS;
 use spans::{LIST_NUMBERS, SpanNumbers};
+use std::io;
+use std::io::{IsTerminal, Read};
 
-// How far reading came: what waits in the output, and whether a read failed.
+// How far reading came: what waits in the output, and why a read failed, if one did.
 #[derive(Clone, Copy)]
 pub struct Come {
     pub at: usize,
-    pub failed: bool,
+    pub fault: Option<io::Error>,
 }
 
 // Someone waits at a terminal and does not see the output there, which would show that work goes on.
-fn is_watched() -> bool {
-    libc::isatty(STDERR_FILENO) == 1 && libc::isatty(STDOUT_FILENO) == 0
+fn is_watched(streams: Streams) -> bool {
+    streams.err.is_terminal() && !streams.out.is_terminal()
 }
 
-fn show_progress(lines: u64) {
-    if lines % 10000 == 0 && is_watched() {
-        io::print_decimal(STDERR_FILENO, lines);
-        io::write_all(STDERR_FILENO, b" lines read\n");
+fn show_progress(streams: Streams, lines: u64) {
+    if lines % 10000 == 0 && is_watched(streams) {
+        let err = streams.err;
+        let _ = println!(err; "{lines} lines read");
     }
 }
 
@@ -105,7 +106,8 @@ fn tell_refused(
     at: usize,
 ) -> usize {
     if style.plain {
-        put_refused_row(streams, 
+        put_refused_row(
+            streams,
             out,
             at,
             path,
@@ -136,7 +138,8 @@ fn tell_accepted(
     at: usize,
 ) -> usize {
     if style.plain {
-        put_accepted_row(streams, 
+        put_accepted_row(
+            streams,
             out,
             at,
             path,
@@ -151,7 +154,8 @@ fn tell_accepted(
             normal,
         )
     } else {
-        put_accepted(streams, 
+        put_accepted(
+            streams,
             out,
             at,
             path,
@@ -199,9 +203,12 @@ fn tell_line(
     );
     count(counts, number as usize);
     if number > 0 {
-        return tell_refused(streams, style, path, place, line, len, number, &figures, out, at);
+        return tell_refused(
+            streams, style, path, place, line, len, number, &figures, out, at,
+        );
     }
-    tell_accepted(streams, 
+    tell_accepted(
+        streams,
         style,
         path,
         place,
@@ -231,12 +238,14 @@ fn read_one(
     at: usize,
 ) -> usize {
     count(counts, LINES);
-    show_progress(counted(counts, LINES));
+    show_progress(streams, counted(counts, LINES));
     if is_passed_over(line, len) {
         count(counts, PASSED_OVER);
         return at;
     }
-    tell_line(streams, style, path, place, line, len, counts, normal, out, at)
+    tell_line(
+        streams, style, path, place, line, len, counts, normal, out, at,
+    )
 }
 
 // What the input gave: a line of a length, without the CR before its LF, or none. A last line without LF is one; what stands before a fault is none, since it may be cut.
@@ -244,7 +253,7 @@ fn read_one(
 enum Taken {
     Line(usize),
     End,
-    Fault,
+    Fault(io::Error),
 }
 
 fn without_return(len: usize, last: u8) -> usize {
@@ -258,7 +267,7 @@ fn without_return(len: usize, last: u8) -> usize {
 fn taken_of(ended: Ended, len: usize, last: u8) -> Taken {
     match ended {
         Ended::ByLineFeed => Taken::Line(without_return(len, last)),
-        Ended::ByFault => Taken::Fault,
+        Ended::ByFault(why) => Taken::Fault(why),
         Ended::ByEnd => if len > 0 {
             Taken::Line(len)
         } else {
@@ -267,9 +276,9 @@ fn taken_of(ended: Ended, len: usize, last: u8) -> Taken {
     }
 }
 
-fn each_line(
+fn each_line<R: Read>(
+    from: &mut R,
     streams: Streams,
-    fd: i32,
     style: Style,
     path: &[u8; PATH],
     path_len: usize,
@@ -284,22 +293,19 @@ fn each_line(
     let mut n = at;
     let mut number: u64 = 0;
     while number < u64::MAX {
-        let got = input::take_line(fd, fetched, feed, line);
+        let got = input::take_line(from, fetched, feed, line);
         feed = got.feed;
         number += 1;
         let ended = got.ended;
         match taken_of(ended, got.len, got.last) {
-            Taken::Fault => {
+            Taken::Fault(why) => {
                 return Come {
                     at: n,
-                    failed: true,
+                    fault: Some(why),
                 };
             }
             Taken::End => {
-                return Come {
-                    at: n,
-                    failed: false,
-                };
+                return Come { at: n, fault: None };
             }
             Taken::Line(len) => {
                 let place = Place {
@@ -307,20 +313,19 @@ fn each_line(
                     path_len,
                     number,
                 };
-                n = read_one(streams, style, path, place, line, len, counts, normal, out, n);
+                n = read_one(
+                    streams, style, path, place, line, len, counts, normal, out, n,
+                );
             }
         }
     }
-    Come {
-        at: n,
-        failed: false,
-    }
+    Come { at: n, fault: None }
 }
 
 // Room for a name's normal form stands here, once for a file.
-pub fn read_lines(
+pub fn read_lines<R: Read>(
+    from: &mut R,
     streams: Streams,
-    fd: i32,
     style: Style,
     path: &[u8; PATH],
     path_len: usize,
@@ -331,8 +336,9 @@ pub fn read_lines(
     at: usize,
 ) -> Come {
     let mut normal = [0u8; NAME];
-    each_line(streams, 
-        fd,
+    each_line(
+        from,
+        streams,
         style,
         path,
         path_len,

@@ -16,13 +16,11 @@ mod tally;
 
 use arguments::PATH;
 use input::HELD;
-use libc::STDERR_FILENO;
 use output::{ROOM, Streams};
 use tally::COUNTS;
 
-fn usage() {
-    io::write_all(
-        STDERR_FILENO,
+fn usage(streams: Streams) {
+    let _ = streams.err.write_all(
         b"usage: ./hulmisker read [--plain] [--] [FILE..]   (- or no FILE: standard input)\n",
     );
 }
@@ -37,12 +35,15 @@ fn end(streams: Streams, plain: bool, counts: &[u64; COUNTS], out: &mut [u8; ROO
     output::flush(streams, out, n);
 }
 
-fn run(plain: bool, files: usize, path: &mut [u8; PATH]) {
+fn run(rt: &HostRuntime, plain: bool, files: usize, path: &mut [u8; PATH]) {
+    let streams = Streams::of(rt);
     let mut fetched = [0u8; input::ROOM];
     let mut line = [0u8; HELD];
     let mut out = [0u8; ROOM];
     let mut counts = [0u64; COUNTS];
-    let at = files::read_all(streams, 
+    let at = files::read_all(
+        rt,
+        streams,
         plain,
         files,
         path,
@@ -54,12 +55,12 @@ fn run(plain: bool, files: usize, path: &mut [u8; PATH]) {
     end(streams, plain, &counts, &mut out, at);
 }
 
-fn main() {
+fn main(rt: HostRuntime) {
     let mut path = [0u8; PATH];
-    let wanted = arguments::survey(&mut path);
+    let wanted = arguments::survey(&rt, &mut path);
     if wanted.unknown {
-        usage();
+        usage(Streams::of(&rt));
     } else {
-        run(wanted.plain, wanted.files, &mut path);
+        run(&rt, wanted.plain, wanted.files, &mut path);
     }
 }

@@ -1,6 +1,6 @@
 // Which line of which file is spoken of.
 use crate::arguments::PATH;
-use output::{Streams, ROOM, put, put_number, put_text};
+use output::{ROOM, Streams, put, put_number, put_text};
 
 // How it is told: as rows for other tools, and with the file's name where there are several.
 #[derive(Clone, Copy)]
@@ -25,7 +25,13 @@ fn name_byte(b: u8) -> u8 {
     }
 }
 
-fn put_path(streams: Streams, out: &mut [u8; ROOM], at: usize, path: &[u8; PATH], len: usize) -> usize {
+fn put_path(
+    streams: Streams,
+    out: &mut [u8; ROOM],
+    at: usize,
+    path: &[u8; PATH],
+    len: usize,
+) -> usize {
     let mut n = at;
     let mut i: usize = 0;
     while i < len && i < PATH {
@@ -52,7 +58,13 @@ pub fn put_name(
 }
 
 // The front of a row.
-pub fn put_columns(streams: Streams, out: &mut [u8; ROOM], at: usize, path: &[u8; PATH], place: Place) -> usize {
+pub fn put_columns(
+    streams: Streams,
+    out: &mut [u8; ROOM],
+    at: usize,
+    path: &[u8; PATH],
+    place: Place,
+) -> usize {
     let n = put_name(streams, out, at, path, place, b'\t');
     let n = put_number(streams, out, n, place.number);
     put(streams, out, n, b'\t')

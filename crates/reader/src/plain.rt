@@ -5,7 +5,7 @@ use crate::place::{Place, put_columns, put_name};
 use figures::{LINE_NAME_LENGTH, LINE_NAME_START, LineFigures};
 use input::HELD;
 use marker_store::{Comparisons, Warnings, Words};
-use output::{Streams, ROOM, put, put_text};
+use output::{ROOM, Streams, put, put_text};
 use spans::SpanNumbers;
 use wording::{put_parts, put_refused};
 
@@ -26,7 +26,8 @@ pub fn put_accepted_row(
 ) -> usize {
     let n = put_columns(streams, out, at, path, place);
     let n = put_text(streams, out, n, b"ok\t");
-    let n = put_normal_name(streams, 
+    let n = put_normal_name(
+        streams,
         out,
         n,
         line,
@@ -35,7 +36,8 @@ pub fn put_accepted_row(
         normal,
     );
     let n = put(streams, out, n, b'\t');
-    let n = put_parts(streams, 
+    let n = put_parts(
+        streams,
         out,
         n,
         figures,
@@ -64,7 +66,13 @@ pub fn put_refused_row(
 }
 
 // A file that was not read to its end has a row too: rows are no whole answer without it.
-pub fn put_not_read_row(streams: Streams, out: &mut [u8; ROOM], at: usize, path: &[u8; PATH], place: Place) -> usize {
+pub fn put_not_read_row(
+    streams: Streams,
+    out: &mut [u8; ROOM],
+    at: usize,
+    path: &[u8; PATH],
+    place: Place,
+) -> usize {
     let n = put_name(streams, out, at, path, place, b'\t');
     put_text(streams, out, n, b"-\tnot read\n")
 }

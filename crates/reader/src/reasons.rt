@@ -1,5 +1,5 @@
 // Why a line is refused, in words: one text for each of document 01's numbers. And what a warning's kind means.
-use output::{Streams, ROOM, put_text};
+use output::{ROOM, Streams, put_text};
 
 fn put_of_name(streams: Streams, out: &mut [u8; ROOM], at: usize, number: u8) -> usize {
     match number {
@@ -15,9 +15,15 @@ fn put_of_extras(streams: Streams, out: &mut [u8; ROOM], at: usize, number: u8) 
     match number {
         6 => put_text(streams, out, at, b"the bracket of the extras is not closed"),
         7 => put_text(streams, out, at, b"a comma stands before the first extra"),
-        8 => put_text(streams, out, at, b"an extra starts with a letter or a digit"),
+        8 => put_text(
+            streams,
+            out,
+            at,
+            b"an extra starts with a letter or a digit",
+        ),
         9 => put_text(streams, out, at, b"a comma is missing between two extras"),
-        10 => put_text(streams, 
+        10 => put_text(
+            streams,
             out,
             at,
             b"behind an extra stands a comma, a bracket or white space",
@@ -30,8 +36,18 @@ fn put_of_extras(streams: Streams, out: &mut [u8; ROOM], at: usize, number: u8) 
 fn put_of_source(streams: Streams, out: &mut [u8; ROOM], at: usize, number: u8) -> usize {
     match number {
         13 => put_text(streams, out, at, b"the URL is empty"),
-        14 => put_text(streams, out, at, b"this is no valid version, pattern or specifier"),
-        15 => put_text(streams, out, at, b"the parenthesis of the specifiers is not closed"),
+        14 => put_text(
+            streams,
+            out,
+            at,
+            b"this is no valid version, pattern or specifier",
+        ),
+        15 => put_text(
+            streams,
+            out,
+            at,
+            b"the parenthesis of the specifiers is not closed",
+        ),
         16 => put_text(streams, out, at, b"this is the 33rd specifier"),
         _ => put_text(streams, out, at, b"the line goes on after its last part"),
     }
@@ -39,8 +55,14 @@ fn put_of_source(streams: Streams, out: &mut [u8; ROOM], at: usize, number: u8) 
 
 fn put_of_comparison(streams: Streams, out: &mut [u8; ROOM], at: usize, number: u8) -> usize {
     match number {
-        18 => put_text(streams, out, at, b"a value of the marker is missing at the end"),
-        19 => put_text(streams, 
+        18 => put_text(
+            streams,
+            out,
+            at,
+            b"a value of the marker is missing at the end",
+        ),
+        19 => put_text(
+            streams,
             out,
             at,
             b"this value is neither quoted nor a name that markers know",
@@ -54,9 +76,19 @@ fn put_of_comparison(streams: Streams, out: &mut [u8; ROOM], at: usize, number: 
 
 fn put_of_marker(streams: Streams, out: &mut [u8; ROOM], at: usize, number: u8) -> usize {
     match number {
-        24 => put_text(streams, out, at, b"the marker goes on after its last comparison"),
+        24 => put_text(
+            streams,
+            out,
+            at,
+            b"the marker goes on after its last comparison",
+        ),
         25 => put_text(streams, out, at, b"this is the 17th open parenthesis"),
-        26 => put_text(streams, out, at, b"this is the 65th comparison that is kept"),
+        26 => put_text(
+            streams,
+            out,
+            at,
+            b"this is the 65th comparison that is kept",
+        ),
         _ => put_text(streams, out, at, b"this is the 65th warning"),
     }
 }
@@ -88,14 +120,21 @@ pub fn put_reason(streams: Streams, out: &mut [u8; ROOM], at: usize, number: u8)
 
 pub fn put_meaning(streams: Streams, out: &mut [u8; ROOM], at: usize, kind: usize) -> usize {
     match kind {
-        1 => put_text(streams, 
+        1 => put_text(
+            streams,
             out,
             at,
             b"a version is compared with what is none, or in no valid way",
         ),
         2 => put_text(streams, out, at, b"a text is compared with a name"),
-        3 => put_text(streams, out, at, b"~= compares versions, and this is a text"),
-        4 => put_text(streams, 
+        3 => put_text(
+            streams,
+            out,
+            at,
+            b"~= compares versions, and this is a text",
+        ),
+        4 => put_text(
+            streams,
             out,
             at,
             b"'extra' goes with == or != and a name in quotes that has a normal form",

@@ -7,7 +7,7 @@ use crate::reasons::put_reason;
 use crate::shown::{put_shown, put_times};
 use figures::{LENGTH, LineFigures, START};
 use input::HELD;
-use output::{Streams, ROOM, put, put_number, put_text};
+use output::{ROOM, Streams, put, put_number, put_text};
 
 // At most so many bytes of a line are shown, and of a longer line so many before the fault.
 const WIDTH: usize = 120;
@@ -37,10 +37,21 @@ fn window(len: usize, start: usize) -> Part {
 }
 
 fn put_cut(streams: Streams, out: &mut [u8; ROOM], at: usize, cut: bool) -> usize {
-    if cut { put_text(streams, out, at, b"..") } else { at }
+    if cut {
+        put_text(streams, out, at, b"..")
+    } else {
+        at
+    }
 }
 
-fn put_window(streams: Streams, out: &mut [u8; ROOM], at: usize, line: &[u8; HELD], len: usize, part: Part) -> usize {
+fn put_window(
+    streams: Streams,
+    out: &mut [u8; ROOM],
+    at: usize,
+    line: &[u8; HELD],
+    len: usize,
+    part: Part,
+) -> usize {
     let n = put_text(streams, out, at, b"    ");
     let n = put_cut(streams, out, n, 0 < part.from);
     let n = put_shown(streams, out, n, line, part);
@@ -53,7 +64,14 @@ fn difference(a: usize, b: usize) -> usize {
 }
 
 // A mark below each byte of the span that is shown, and one at least.
-fn put_marks(streams: Streams, out: &mut [u8; ROOM], at: usize, part: Part, start: usize, len: usize) -> usize {
+fn put_marks(
+    streams: Streams,
+    out: &mut [u8; ROOM],
+    at: usize,
+    part: Part,
+    start: usize,
+    len: usize,
+) -> usize {
     let before = if 0 < part.from { 6 } else { 4 };
     let n = put_times(streams, out, at, b' ', before);
     let n = put_times(streams, out, n, b' ', difference(start, part.from));
@@ -63,7 +81,14 @@ fn put_marks(streams: Streams, out: &mut [u8; ROOM], at: usize, part: Part, star
     put(streams, out, n, b'\n')
 }
 
-fn put_fault(streams: Streams, out: &mut [u8; ROOM], at: usize, number: u8, start: usize, len: usize) -> usize {
+fn put_fault(
+    streams: Streams,
+    out: &mut [u8; ROOM],
+    at: usize,
+    number: u8,
+    start: usize,
+    len: usize,
+) -> usize {
     let n = put_number(streams, out, at, number as u64);
     let n = put_place(streams, out, n, start, len);
     let n = put_text(streams, out, n, b": ");

@@ -1,7 +1,7 @@
 // A part of a line as it is shown: one printable byte for each of its bytes, so that marks below it stand where they belong.
 use crate::parts::Part;
 use input::HELD;
-use output::{Streams, ROOM, put};
+use output::{ROOM, Streams, put};
 
 fn shown(b: u8) -> u8 {
     match b {
@@ -11,7 +11,13 @@ fn shown(b: u8) -> u8 {
     }
 }
 
-pub fn put_shown(streams: Streams, out: &mut [u8; ROOM], at: usize, line: &[u8; HELD], part: Part) -> usize {
+pub fn put_shown(
+    streams: Streams,
+    out: &mut [u8; ROOM],
+    at: usize,
+    line: &[u8; HELD],
+    part: Part,
+) -> usize {
     let to = part.to;
     let mut n = at;
     let mut i = part.from;
@@ -22,7 +28,13 @@ pub fn put_shown(streams: Streams, out: &mut [u8; ROOM], at: usize, line: &[u8; 
     n
 }
 
-pub fn put_times(streams: Streams, out: &mut [u8; ROOM], at: usize, byte: u8, times: usize) -> usize {
+pub fn put_times(
+    streams: Streams,
+    out: &mut [u8; ROOM],
+    at: usize,
+    byte: u8,
+    times: usize,
+) -> usize {
     let mut n = at;
     let mut left = times;
     while left > 0 {

@@ -1,5 +1,5 @@
 // How many lines there were of each kind. A count stands in a lent array: accepted lines at 0, those refused by a number at this number.
-use output::{Streams, ROOM, put_number, put_text};
+use output::{ROOM, Streams, put_number, put_text};
 
 pub const COUNTS: usize = 35;
 
@@ -63,7 +63,12 @@ fn put_refusal(
 }
 
 // How many lines each number refused, if any did.
-fn put_refusals(streams: Streams, out: &mut [u8; ROOM], at: usize, counts: &[u64; COUNTS]) -> usize {
+fn put_refusals(
+    streams: Streams,
+    out: &mut [u8; ROOM],
+    at: usize,
+    counts: &[u64; COUNTS],
+) -> usize {
     let mut n = at;
     let mut first = true;
     let mut number: usize = 1;
@@ -74,7 +79,11 @@ fn put_refusals(streams: Streams, out: &mut [u8; ROOM], at: usize, counts: &[u64
         }
         number += 1;
     }
-    if first { n } else { put_text(streams, out, n, b")") }
+    if first {
+        n
+    } else {
+        put_text(streams, out, n, b")")
+    }
 }
 
 fn put_not_read(streams: Streams, out: &mut [u8; ROOM], at: usize, files: u64) -> usize {
@@ -85,12 +94,23 @@ fn put_not_read(streams: Streams, out: &mut [u8; ROOM], at: usize, files: u64) -
     }
 }
 
-pub fn put_tally(streams: Streams, counts: &[u64; COUNTS], out: &mut [u8; ROOM], at: usize) -> usize {
+pub fn put_tally(
+    streams: Streams,
+    counts: &[u64; COUNTS],
+    out: &mut [u8; ROOM],
+    at: usize,
+) -> usize {
     let n = put_counted(streams, out, at, b"lines ", counted(counts, LINES));
     let n = put_counted(streams, out, n, b", accepted ", counted(counts, 0));
     let n = put_counted(streams, out, n, b", refused ", refused_in_all(counts));
     let n = put_refusals(streams, out, n, counts);
-    let n = put_counted(streams, out, n, b", passed over ", counted(counts, PASSED_OVER));
+    let n = put_counted(
+        streams,
+        out,
+        n,
+        b", passed over ",
+        counted(counts, PASSED_OVER),
+    );
     let n = put_not_read(streams, out, n, counted(counts, NOT_READ));
     put_text(streams, out, n, b"\n")
 }
