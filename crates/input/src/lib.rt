@@ -1,7 +1,9 @@
 // The lines of what is read, one by one. Bytes are fetched many at a time into an array that the caller lends.
 #![tactic(auto)]
 
-ghost use Rattle.std.specs.Prelude.{min, ◌≡◌, ◌≤◌, length};
+ghost use Rattle.std.specs.Prelude.{ℕ, List, min, ◌≡◌, ◌<◌, ◌≤◌, ◌++◌, ◌∷◌, [], length, take, drop, slice_index, slice_set};
+ghost use Rattle.std.specs.Io.KnownBytes.{Consumes};
+ghost use Rattle.input.specs.Coming.{coming, mark, IsLine, IsTrueEnd, IsNext};
 
 use std::io;
 use std::io::Read;
@@ -50,7 +52,9 @@ impl Feed {
     }
 }
 
-fn first_byte(buf: &[u8; ROOM], end: usize) -> Next {
+fn first_byte(buf: &[u8; ROOM], end: usize) -> Next
+    ensures { result ≡ Next.Byte (slice_index buf.now 0) (record { at = 1; end = end }) }
+{
     Next::Byte {
         byte: buf[0],
         feed: Feed { at: 1, end },
@@ -58,7 +62,9 @@ fn first_byte(buf: &[u8; ROOM], end: usize) -> Next {
 }
 
 // A read that answers nothing is the end, and one that fails a fault.
-fn fetch<R: Read>(from: &mut R, buf: &mut [u8; ROOM]) -> Next {
+fn fetch<R: Read>(from: &mut R, buf: &mut [u8; ROOM]) -> Next
+    ensures { IsNext result (R.remaining from.old) (record { at = 0; end = 0 }) buf.new (R.remaining from.new) }
+{
     match from.read(buf) {
         Ok(0) => Next::End(Ended::ByEnd),
         Ok(n) => first_byte(buf, n),
@@ -66,7 +72,9 @@ fn fetch<R: Read>(from: &mut R, buf: &mut [u8; ROOM]) -> Next {
     }
 }
 
-fn next_byte<R: Read>(from: &mut R, buf: &mut [u8; ROOM], feed: Feed) -> Next {
+fn next_byte<R: Read>(from: &mut R, buf: &mut [u8; ROOM], feed: Feed) -> Next
+    ensures { IsNext result (coming feed buf.old (R.remaining from.old)) feed buf.new (R.remaining from.new) }
+{
     let at = feed.at;
     if at < feed.end && at < ROOM {
         return Next::Byte {
@@ -80,14 +88,16 @@ fn next_byte<R: Read>(from: &mut R, buf: &mut [u8; ROOM], feed: Feed) -> Next {
     fetch(from, buf)
 }
 
-fn hold(line: &mut [u8; HELD], at: usize, byte: u8) {
+fn hold(line: &mut [u8; HELD], at: usize, byte: u8)
+    ensures { line.new ≡ slice_set line.old at byte }
+{
     if at < HELD {
         line[at] = byte;
     }
 }
 
 fn line_of(feed: Feed, len: usize, last: u8, ended: Ended) -> Line
-    ensures { result.held ≡ min result.len 20001 }
+    ensures { result ≡ record { feed = feed; len = len; held = min len 20001; last = last; ended = ended } }
 {
     Line {
         feed,
@@ -105,7 +115,9 @@ pub fn take_line<R: Read>(
     feed: Feed,
     line: &mut [u8; HELD],
 ) -> Line
-    ensures { result.held ≡ min result.len 20001 }
+    ensures held { result.held ≡ min result.len 20001 }
+    ensures line { (text : List ℕ) × IsLine result.len result.held result.last line.new text × Consumes (coming feed buf.old (R.remaining from.old)) (coming result.feed buf.new (R.remaining from.new)) (text ++ mark result.ended) }
+    ensures end { IsTrueEnd result.ended result.len (coming result.feed buf.new (R.remaining from.new)) }
 {
     let mut rest = feed;
     let mut len: usize = 0;
@@ -131,7 +143,8 @@ pub fn take_line<R: Read>(
 
 // Reads until the array is full, the input ends or a read fails, and says how many bytes stand at the front then.
 pub fn read_full<R: Read>(from: &mut R, buf: &mut [u8]) -> usize
-    ensures { result ≤ length buf.new }
+    ensures within { result ≤ length buf.new }
+    ensures bytes { Consumes (R.remaining from.old) (R.remaining from.new) (take result buf.new) }
 {
     let mut done: usize = 0;
     while done < buf.len() {
