@@ -116,7 +116,9 @@ pub fn take_line<R: Read>(
     line: &mut [u8; HELD],
 ) -> Line
     ensures held { result.held ≡ min result.len 20001 }
-    ensures line { (text : List ℕ) × IsLine result.len result.held result.last line.new text × Consumes (coming feed buf.old (R.remaining from.old)) (coming result.feed buf.new (R.remaining from.new)) (text ++ mark result.ended) }
+    ensures line { (text : List ℕ) × IsLine result.len result.held result.last line.new text
+        × Consumes (coming feed buf.old (R.remaining from.old)) (coming result.feed buf.new (R.remaining from.new))
+        (text ++ mark result.ended) }
     ensures end { IsTrueEnd result.ended result.len (coming result.feed buf.new (R.remaining from.new)) }
 {
     let mut rest = feed;
