@@ -13,7 +13,7 @@ use Rattle.marker_laws.specs.Value.{Left}
 use Rattle.marker_steps.specs.Grammar.{Tree}
 use Rattle.marker_steps.specs.Marking.{Marking}
 use Rattle.program_laws.proofs.Meaning.{within_passes}
-use Rattle.program_run.proofs.Ran.{within_ran}
+use Rattle.program_run.proofs.RanAnswers.{within_ran}
 use Rattle.program_check.specs.Check.{checked_program}
 use Rattle.program_run.specs.Run.{bit, ran}
 use Rattle.program_check.specs.Tree.{Within, Below, slots, postfix, fold, leaf_yes}

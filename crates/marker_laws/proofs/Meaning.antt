@@ -23,7 +23,7 @@ use Rattle.cursor.specs.Limits.{max_comparisons}
 use Rattle.marker_steps.specs.Grammar.{Tree, compared, both, either, group, kept_in, warned_in, kept_of, Parsed, got, fault, settled, settle, Ahead, on, word_ahead, and_word, or_word, chain, item_of, and_of, or_of, closed, group_at, ending, parse_from}
 use Rattle.marker_steps.specs.Marking.{is_kept, some, push, joint, words_from, program, Marking, marking}
 use Rattle.program_laws.proofs.Meaning.{within_passes}
-use Rattle.program_run.proofs.Ran.{within_ran}
+use Rattle.program_run.proofs.RanAnswers.{within_ran}
 use Rattle.program_check.specs.Check.{checked_program}
 use Rattle.program_run.specs.Run.{bit, ran}
 use Rattle.program_check.specs.Tree as P

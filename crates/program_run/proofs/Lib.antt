@@ -3,6 +3,6 @@ pub mod Bits
 pub mod Examples
 pub mod Own
 pub mod Passing
-pub mod Ran
+pub mod RanAnswers
 pub mod Runs
 pub mod Values

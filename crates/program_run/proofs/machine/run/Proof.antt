@@ -1,4 +1,4 @@
-use Rattle.program_run.proofs.Ran.{answers}
+use Rattle.program_run.proofs.RanAnswers.{answers}
 use Rattle.program_run.proofs.machine.run.Statement.{statement}
 use Rattle.program_run.proofs.machine.run.Tie as tie
 

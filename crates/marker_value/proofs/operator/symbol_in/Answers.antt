@@ -1,0 +1,23 @@
+use Rattle.marker_value.specs.Operator.{symbol_in}
+use Rattle.text.proofs.Cases.{cases}
+use Rattle.marker_value.proofs.operator.symbol_in.Goals as goal
+
+pub returns-then-spelled : goal.returns-then-spelled
+unfolding symbol_in
+returns-then-spelled c = search cases depth 12
+
+pub returns-then-spelled-2 : goal.returns-then-spelled-2
+unfolding symbol_in
+returns-then-spelled-2 c = search cases depth 12
+
+pub returns-then-spelled-3 : goal.returns-then-spelled-3
+unfolding symbol_in
+returns-then-spelled-3 c = search cases depth 12
+
+pub returns-then-spelled-4 : goal.returns-then-spelled-4
+unfolding symbol_in
+returns-then-spelled-4 c = search cases depth 12
+
+pub returns : goal.returns
+unfolding symbol_in
+returns c = search cases depth 12
