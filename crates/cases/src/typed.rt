@@ -15,7 +15,7 @@ use marker_store::{
     store_warning,
 };
 use marker_typed::Lists;
-use output::{ROOM, put_text};
+use output::{ROOM, Streams, put_text};
 use refusal::{Outcome, Refusal, Span};
 use spans::{LIST_NUMBERS, SpanNumbers};
 use wording::{put_marker, put_parts, put_refused, put_spans};
@@ -50,15 +50,15 @@ fn warning_numbers(warnings: [Warning; Cursor::MAX_COMPARISONS]) -> Warnings {
     list
 }
 
-pub fn put_refusal(buf: &mut [u8; ROOM], at: usize, why: Refusal) -> usize
+pub fn put_refusal(streams: Streams, buf: &mut [u8; ROOM], at: usize, why: Refusal) -> usize
     ensures { result ≤ max at most_waiting }
 {
     let fault = why.fault;
     let span = why.span;
-    put_refused(buf, at, fault.number(), span.start.0, span.len)
+    put_refused(streams, buf, at, fault.number(), span.start.0, span.len)
 }
 
-fn put_lists(buf: &mut [u8; ROOM], at: usize, lists: Lists) -> usize
+fn put_lists(streams: Streams, buf: &mut [u8; ROOM], at: usize, lists: Lists) -> usize
     ensures { result ≤ max at most_waiting }
 {
     let comparisons = lists.comparisons;
@@ -67,52 +67,49 @@ fn put_lists(buf: &mut [u8; ROOM], at: usize, lists: Lists) -> usize
     let counts = lists.counts;
     let comps = comparison_numbers(comparisons);
     let warns = warning_numbers(warnings);
-    put_marker(buf, at, &comps, &warns, &words, counts)
+    put_marker(streams, buf, at, &comps, &warns, &words, counts)
 }
 
-pub fn put_typed_marker(buf: &mut [u8; ROOM], at: usize, text: &[u8]) -> usize
+pub fn put_typed_marker(streams: Streams, buf: &mut [u8; ROOM], at: usize, text: &[u8]) -> usize
     ensures { result ≤ max at most_waiting }
 {
     let read = marker_typed::read_marker(text);
     let outcome = read.outcome;
     match outcome {
-        Outcome::Refused(why) => put_refusal(buf, at, why),
+        Outcome::Refused(why) => put_refusal(streams, buf, at, why),
         Outcome::Good => {
             let lists = read.lists;
-            let n = put_text(buf, at, b"ok");
-            put_lists(buf, n, lists)
+            let n = put_text(streams, buf, at, b"ok");
+            put_lists(streams, buf, n, lists)
         }
     }
 }
 
-pub fn put_typed_extras(buf: &mut [u8; ROOM], at: usize, text: &[u8]) -> usize
+pub fn put_typed_extras(streams: Streams, buf: &mut [u8; ROOM], at: usize, text: &[u8]) -> usize
     ensures { result ≤ max at most_waiting }
 {
     let read = extras::read_extras(text);
     let outcome = read.outcome;
     match outcome {
-        Outcome::Refused(why) => put_refusal(buf, at, why),
+        Outcome::Refused(why) => put_refusal(streams, buf, at, why),
         Outcome::Good => {
             let spans = read.extras;
             let list = span_numbers(spans);
-            put_spans(buf, at, b"ok extras=", &list, read.count)
+            put_spans(streams, buf, at, b"ok extras=", &list, read.count)
         }
     }
 }
 
 // A line's figures as its C function tells them: the first two are a refusal's place.
-fn figures_of(read: Requirement) -> LineFigures {
+fn figures_of(read: &Requirement) -> LineFigures {
     let name = read.name;
-    let extras = read.extras;
-    let specifiers = read.specifiers;
-    let lists = read.marker;
-    let counts = lists.counts;
+    let counts = read.marker.counts;
     let url = read.url;
     let mut figures = [0usize; LINE_FIGURES];
     figures[LINE_NAME_START] = name.start.0;
     figures[LINE_NAME_LENGTH] = name.len;
-    figures[LINE_EXTRAS] = extras.count;
-    figures[LINE_SPECIFIERS] = specifiers.count;
+    figures[LINE_EXTRAS] = read.extras.count;
+    figures[LINE_SPECIFIERS] = read.specifiers.count;
     figures[LINE_COMPARISONS] = counts.kept;
     figures[LINE_WARNINGS] = counts.warned;
     figures[LINE_WORDS] = counts.words;
@@ -127,10 +124,10 @@ fn figures_of(read: Requirement) -> LineFigures {
     figures
 }
 
-fn put_requirement(buf: &mut [u8; ROOM], at: usize, read: Requirement) -> usize
+fn put_requirement(streams: Streams, buf: &mut [u8; ROOM], at: usize, read: Requirement) -> usize
     ensures { result ≤ max at most_waiting }
 {
-    let figures = figures_of(read);
+    let figures = figures_of(&read);
     let extras = read.extras;
     let specifiers = read.specifiers;
     let lists = read.marker;
@@ -139,8 +136,9 @@ fn put_requirement(buf: &mut [u8; ROOM], at: usize, read: Requirement) -> usize
     let comparisons = lists.comparisons;
     let warnings = lists.warnings;
     let words = lists.words;
-    let n = put_text(buf, at, b"ok ");
+    let n = put_text(streams, buf, at, b"ok ");
     put_parts(
+        streams,
         buf,
         n,
         &figures,
@@ -152,13 +150,13 @@ fn put_requirement(buf: &mut [u8; ROOM], at: usize, read: Requirement) -> usize
     )
 }
 
-pub fn put_typed_line(buf: &mut [u8; ROOM], at: usize, text: &[u8]) -> usize
+pub fn put_typed_line(streams: Streams, buf: &mut [u8; ROOM], at: usize, text: &[u8]) -> usize
     ensures { result ≤ max at most_waiting }
 {
     let read = line_typed::read_line(text);
     let outcome = read.outcome;
     match outcome {
-        Outcome::Refused(why) => put_refusal(buf, at, why),
-        Outcome::Good => put_requirement(buf, at, read),
+        Outcome::Refused(why) => put_refusal(streams, buf, at, why),
+        Outcome::Good => put_requirement(streams, buf, at, read),
     }
 }

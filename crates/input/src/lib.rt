@@ -1,7 +1,12 @@
-// The lines of a descriptor, one by one. Bytes are fetched many at a time into an array that the caller lends.
+// The lines of what is read, one by one. Bytes are fetched many at a time into an array that the caller lends.
 #![tactic(auto)]
 
-ghost use Rattle.std.specs.Prelude.{min, ◌≡◌};
+ghost use Rattle.std.specs.Prelude.{ℕ, List, min, ◌≡◌, ◌<◌, ◌≤◌, ◌++◌, ◌∷◌, [], length, take, drop, slice_index, slice_set};
+ghost use Rattle.std.specs.Io.KnownBytes.{Consumes};
+ghost use Rattle.input.specs.Coming.{coming, mark, IsLine, IsTrueEnd, IsNext};
+
+use std::io;
+use std::io::Read;
 
 pub const ROOM: usize = 65536;
 
@@ -19,7 +24,7 @@ pub struct Feed {
 pub enum Ended {
     ByLineFeed,
     ByEnd,
-    ByFault,
+    ByFault(io::Error),
 }
 
 #[derive(Clone, Copy)]
@@ -47,7 +52,9 @@ impl Feed {
     }
 }
 
-fn first_byte(buf: &[u8; ROOM], end: usize) -> Next {
+fn first_byte(buf: &[u8; ROOM], end: usize) -> Next
+    ensures { result ≡ Next.Byte (slice_index buf.now 0) (record { at = 1; end = end }) }
+{
     Next::Byte {
         byte: buf[0],
         feed: Feed { at: 1, end },
@@ -55,19 +62,19 @@ fn first_byte(buf: &[u8; ROOM], end: usize) -> Next {
 }
 
 // A read that answers nothing is the end, and one that fails a fault.
-fn fetch(fd: i32, buf: &mut [u8; ROOM]) -> Next {
-    let got = libc::read(fd, buf);
-    if got < 0 {
-        return Next::End(Ended::ByFault);
+fn fetch<R: Read>(from: &mut R, buf: &mut [u8; ROOM]) -> Next
+    ensures { IsNext result (R.remaining from.old) (record { at = 0; end = 0 }) buf.new (R.remaining from.new) }
+{
+    match from.read(buf) {
+        Ok(0) => Next::End(Ended::ByEnd),
+        Ok(n) => first_byte(buf, n),
+        Err(why) => Next::End(Ended::ByFault(why)),
     }
-    if got == 0 {
-        return Next::End(Ended::ByEnd);
-    }
-    let n = io::count(got, buf);
-    first_byte(buf, n)
 }
 
-fn next_byte(fd: i32, buf: &mut [u8; ROOM], feed: Feed) -> Next {
+fn next_byte<R: Read>(from: &mut R, buf: &mut [u8; ROOM], feed: Feed) -> Next
+    ensures { IsNext result (coming feed buf.old (R.remaining from.old)) feed buf.new (R.remaining from.new) }
+{
     let at = feed.at;
     if at < feed.end && at < ROOM {
         return Next::Byte {
@@ -78,17 +85,19 @@ fn next_byte(fd: i32, buf: &mut [u8; ROOM], feed: Feed) -> Next {
             },
         };
     }
-    fetch(fd, buf)
+    fetch(from, buf)
 }
 
-fn hold(line: &mut [u8; HELD], at: usize, byte: u8) {
+fn hold(line: &mut [u8; HELD], at: usize, byte: u8)
+    ensures { line.new ≡ slice_set line.old at byte }
+{
     if at < HELD {
         line[at] = byte;
     }
 }
 
 fn line_of(feed: Feed, len: usize, last: u8, ended: Ended) -> Line
-    ensures { result.held ≡ min result.len 20001 }
+    ensures { result ≡ record { feed = feed; len = len; held = min len 20001; last = last; ended = ended } }
 {
     Line {
         feed,
@@ -100,14 +109,23 @@ fn line_of(feed: Feed, len: usize, last: u8, ended: Ended) -> Line
 }
 
 // The next line: its front is held in the lent array. A loop that is proved must end, so it counts, up to a length that no line has.
-pub fn take_line(fd: i32, buf: &mut [u8; ROOM], feed: Feed, line: &mut [u8; HELD]) -> Line
-    ensures { result.held ≡ min result.len 20001 }
+pub fn take_line<R: Read>(
+    from: &mut R,
+    buf: &mut [u8; ROOM],
+    feed: Feed,
+    line: &mut [u8; HELD],
+) -> Line
+    ensures held { result.held ≡ min result.len 20001 }
+    ensures line { (text : List ℕ) × IsLine result.len result.held result.last line.new text
+        × Consumes (coming feed buf.old (R.remaining from.old)) (coming result.feed buf.new (R.remaining from.new))
+        (text ++ mark result.ended) }
+    ensures end { IsTrueEnd result.ended result.len (coming result.feed buf.new (R.remaining from.new)) }
 {
     let mut rest = feed;
     let mut len: usize = 0;
     let mut last: u8 = 0;
     while len < usize::MAX {
-        match next_byte(fd, buf, rest) {
+        match next_byte(from, buf, rest) {
             Next::End(ended) => {
                 return line_of(rest, len, last, ended);
             }
@@ -123,4 +141,20 @@ pub fn take_line(fd: i32, buf: &mut [u8; ROOM], feed: Feed, line: &mut [u8; HELD
         }
     }
     line_of(rest, len, last, Ended::ByEnd)
+}
+
+// Reads until the array is full, the input ends or a read fails, and says how many bytes stand at the front then.
+pub fn read_full<R: Read>(from: &mut R, buf: &mut [u8]) -> usize
+    ensures within { result ≤ length buf.new }
+    ensures bytes { Consumes (R.remaining from.old) (R.remaining from.new) (take result buf.new) }
+{
+    let mut done: usize = 0;
+    while done < buf.len() {
+        match from.read(&mut buf[done..]) {
+            Ok(0) => return done,
+            Ok(n) => done += n,
+            Err(_) => return done,
+        }
+    }
+    done
 }

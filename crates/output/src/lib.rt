@@ -2,49 +2,75 @@
 // bytes wait there and answers how many wait afterwards; a full array is written out first.
 #![tactic(auto)]
 
+mod digits;
+mod failure;
+
 ghost use Rattle.std.specs.Prelude.{◌⊎◌, ◌≡◌, ◌≤◌, max};
 ghost use Rattle.output.specs.Room.{most_waiting};
 
-use libc::STDOUT_FILENO;
+use digits::spell;
+pub use failure::tell_failure;
+use std::io;
+use std::io::{Stderr, Stdout};
 
 pub const ROOM: usize = 65536;
 
 // So many wait where a write failed: more than the array has. What is put then is dropped, so that no part of the output is missing but its end.
 const BROKEN: usize = 65537;
 
-fn write_part(buf: &[u8], n: usize) -> bool {
+// Leave to write to standard output, and to say on standard error what failed. It takes no bytes.
+#[derive(Clone, Copy)]
+pub struct Streams {
+    pub out: Stdout,
+    pub err: Stderr,
+}
+
+impl Streams {
+    pub fn of(rt: &HostRuntime) -> Streams {
+        Streams {
+            out: rt.stdout(),
+            err: rt.stderr(),
+        }
+    }
+}
+
+fn write_part(streams: Streams, buf: &[u8], n: usize) -> io::Result<()> {
     if n <= buf.len() {
-        io::write_all(STDOUT_FILENO, &buf[..n])
+        streams.out.write_all(&buf[..n])
     } else {
-        true
+        Ok(())
     }
 }
 
 // Writes out what waits: nothing waits afterwards. A write that fails is told on standard error, once.
-pub fn flush(buf: &[u8; ROOM], at: usize) -> usize
+pub fn flush(streams: Streams, buf: &[u8; ROOM], at: usize) -> usize
     ensures { (result ≡ 0) ⊎ (result ≡ most_waiting) }
 {
     if at > ROOM {
         return BROKEN;
     }
-    if write_part(buf, at) {
+    let Err(why) = write_part(streams, buf, at) else {
         return 0;
-    }
-    os::fail(b"standard output");
+    };
+    tell_failure(streams, b"standard output", why);
     BROKEN
 }
 
 // Where the next byte goes, if it goes anywhere.
-fn free_place(buf: &[u8; ROOM], at: usize) -> usize
+fn free_place(streams: Streams, buf: &[u8; ROOM], at: usize) -> usize
     ensures { result ≤ most_waiting }
 {
-    if at < ROOM { at } else { flush(buf, at) }
+    if at < ROOM {
+        at
+    } else {
+        flush(streams, buf, at)
+    }
 }
 
-pub fn put(buf: &mut [u8; ROOM], at: usize, byte: u8) -> usize
+pub fn put(streams: Streams, buf: &mut [u8; ROOM], at: usize, byte: u8) -> usize
     ensures { result ≤ most_waiting }
 {
-    let n = free_place(buf, at);
+    let n = free_place(streams, buf, at);
     if n < ROOM {
         buf[n] = byte;
         return n + 1;
@@ -53,36 +79,49 @@ pub fn put(buf: &mut [u8; ROOM], at: usize, byte: u8) -> usize
 }
 
 // The bytes of a text from one place up to another, as far as it has them.
-pub fn put_part(buf: &mut [u8; ROOM], at: usize, text: &[u8], from: usize, to: usize) -> usize
+pub fn put_part(
+    streams: Streams,
+    buf: &mut [u8; ROOM],
+    at: usize,
+    text: &[u8],
+    from: usize,
+    to: usize,
+) -> usize
     ensures { result ≤ max at most_waiting }
 {
     let mut n = at;
     let mut i = from;
     while i < to && i < text.len() {
-        n = put(buf, n, text[i]);
+        n = put(streams, buf, n, text[i]);
         i += 1;
     }
     n
 }
 
-pub fn put_text(buf: &mut [u8; ROOM], at: usize, text: &[u8]) -> usize
+pub fn put_text(streams: Streams, buf: &mut [u8; ROOM], at: usize, text: &[u8]) -> usize
     ensures { result ≤ max at most_waiting }
 {
-    put_part(buf, at, text, 0, text.len())
+    put_part(streams, buf, at, text, 0, text.len())
 }
 
-fn put_digits(buf: &mut [u8; ROOM], at: usize, digits: &[u8; 20], n: usize) -> usize
+fn put_digits(
+    streams: Streams,
+    buf: &mut [u8; ROOM],
+    at: usize,
+    digits: &[u8; 20],
+    from: usize,
+) -> usize
     ensures { result ≤ max at most_waiting }
 {
-    put_part(buf, at, digits, 0, n)
+    put_part(streams, buf, at, digits, from, 20)
 }
 
-pub fn put_number(buf: &mut [u8; ROOM], at: usize, number: u64) -> usize
+pub fn put_number(streams: Streams, buf: &mut [u8; ROOM], at: usize, number: u64) -> usize
     ensures { result ≤ max at most_waiting }
 {
     let mut digits = [0u8; 20];
-    let n = io::decimal(number, &mut digits);
-    put_digits(buf, at, &digits, n)
+    let from = spell(number, &mut digits);
+    put_digits(streams, buf, at, &digits, from)
 }
 
 fn hex_digit(n: u8) -> u8 {
@@ -90,9 +129,9 @@ fn hex_digit(n: u8) -> u8 {
 }
 
 // Two digits, in small letters.
-pub fn put_hex(buf: &mut [u8; ROOM], at: usize, byte: u8) -> usize
+pub fn put_hex(streams: Streams, buf: &mut [u8; ROOM], at: usize, byte: u8) -> usize
     ensures { result ≤ most_waiting }
 {
-    let n = put(buf, at, hex_digit(byte / 16));
-    put(buf, n, hex_digit(byte % 16))
+    let n = put(streams, buf, at, hex_digit(byte / 16));
+    put(streams, buf, n, hex_digit(byte % 16))
 }

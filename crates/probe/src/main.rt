@@ -2,12 +2,13 @@
 #![tactic(auto)]
 
 use input::{Ended, Feed, HELD};
-use libc::STDIN_FILENO;
-use output::ROOM;
+use output::{ROOM, Streams};
 use requests::{DATA, OUT};
+use std::io::Stdin;
 
 // One answer, and its line end.
 fn answer_line(
+    streams: Streams,
     line: &[u8; HELD],
     len: usize,
     data: &mut [u8; DATA],
@@ -15,12 +16,13 @@ fn answer_line(
     buf: &mut [u8; ROOM],
     at: usize,
 ) -> usize {
-    let n = requests::answer(line, len, data, out, buf, at);
-    output::put(buf, n, b'\n')
+    let n = requests::answer(streams, line, len, data, out, buf, at);
+    output::put(streams, buf, n, b'\n')
 }
 
 // A last line without a line end is a request, unless it is empty; a line that a fault cut short is none.
 fn answer_last(
+    streams: Streams,
     ended: Ended,
     line: &[u8; HELD],
     len: usize,
@@ -30,12 +32,12 @@ fn answer_last(
     at: usize,
 ) -> usize {
     match ended {
-        Ended::ByFault => at,
+        Ended::ByFault(_) => at,
         _ => {
             if len == 0 {
                 at
             } else {
-                answer_line(line, len, data, out, buf, at)
+                answer_line(streams, line, len, data, out, buf, at)
             }
         }
     }
@@ -43,6 +45,8 @@ fn answer_last(
 
 // Answers to the end of the input, and tells how many bytes still wait.
 fn answer_all(
+    from: &mut Stdin,
+    streams: Streams,
     fetched: &mut [u8; input::ROOM],
     line: &mut [u8; HELD],
     data: &mut [u8; DATA],
@@ -53,28 +57,37 @@ fn answer_all(
     let mut at: usize = 0;
     let mut turns = u64::MAX;
     while 0 < turns {
-        let got = input::take_line(STDIN_FILENO, fetched, feed, line);
+        let got = input::take_line(from, fetched, feed, line);
         feed = got.feed;
         let ended = got.ended;
         match ended {
             Ended::ByLineFeed => {
-                at = answer_line(line, got.len, data, out, buf, at);
+                at = answer_line(streams, line, got.len, data, out, buf, at);
                 turns -= 1;
             }
             _ => {
-                return answer_last(ended, line, got.len, data, out, buf, at);
+                return answer_last(streams, ended, line, got.len, data, out, buf, at);
             }
         }
     }
     at
 }
 
-fn main() {
+fn main(rt: HostRuntime) {
+    let streams = Streams::of(&rt);
     let mut fetched = [0u8; input::ROOM];
     let mut line = [0u8; HELD];
     let mut data = [0u8; DATA];
     let mut out = [0u8; OUT];
     let mut buf = [0u8; ROOM];
-    let n = answer_all(&mut fetched, &mut line, &mut data, &mut out, &mut buf);
-    output::flush(&buf, n);
+    let n = answer_all(
+        &mut rt.stdin(),
+        streams,
+        &mut fetched,
+        &mut line,
+        &mut data,
+        &mut out,
+        &mut buf,
+    );
+    output::flush(streams, &buf, n);
 }

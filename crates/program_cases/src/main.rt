@@ -3,9 +3,10 @@
 
 ghost use Rattle.std.specs.Prelude.{◌≤◌, ◌<◌};
 
-use libc::{STDIN_FILENO, STDOUT_FILENO};
 use program_run::Ran;
 use refusal::{Outcome, Refusal};
+use std::io;
+use std::io::{Stdin, Stdout};
 
 #[derive(Clone, Copy)]
 enum Compared {
@@ -126,16 +127,16 @@ fn agrees(line: &[u8], words: &[u8]) -> bool {
 }
 
 // Up to so many bytes of the input, at the front of a buffer.
-fn read_part(buf: &mut [u8], n: usize) -> usize {
+fn read_part(from: &mut Stdin, buf: &mut [u8], n: usize) -> usize {
     if n <= buf.len() {
-        io::read_full(STDIN_FILENO, &mut buf[..n])
+        input::read_full(from, &mut buf[..n])
     } else {
         0
     }
 }
 
-fn read_front(buf: &mut [u8; 511], n: usize) -> usize {
-    read_part(buf, n)
+fn read_front(from: &mut Stdin, buf: &mut [u8; 511], n: usize) -> usize {
+    read_part(from, buf, n)
 }
 
 fn part_agrees(line: &[u8], words: &[u8], n: usize) -> bool {
@@ -150,14 +151,15 @@ fn front_agrees(line: &[u8; 511], words: &[u8; 255], n: usize) -> bool {
     part_agrees(line, words, n)
 }
 
-fn write_part(buf: &[u8], n: usize) {
+// A write that fails is not told here: what is written last fails then too.
+fn write_part(to: Stdout, buf: &[u8], n: usize) {
     if n <= buf.len() {
-        io::write_all(STDOUT_FILENO, &buf[..n]);
+        let _ = to.write_all(&buf[..n]);
     }
 }
 
-fn write_front(buf: &[u8; 511], n: usize) {
-    write_part(buf, n);
+fn write_front(to: Stdout, buf: &[u8; 511], n: usize) {
+    write_part(to, buf, n);
 }
 
 // How many words the line says.
@@ -168,30 +170,30 @@ fn words_of(line: &[u8; 511]) -> usize
 }
 
 // Reads a line and compares; `shows` has a line that differs written out.
-fn one_case(shows: bool) -> Compared {
+fn one_case(from: &mut Stdin, to: Stdout, shows: bool) -> Compared {
     let mut line = [0u8; 511];
-    if read_front(&mut line, 50) < 50 {
+    if read_front(from, &mut line, 50) < 50 {
         return Compared::End;
     }
     let n = words_of(&line);
     let mut rest = [0u8; 511];
-    read_front(&mut rest, 2 * n + 1);
+    read_front(from, &mut rest, 2 * n + 1);
     let words = decode(&rest, n);
     if front_agrees(&line, &words, n) {
         return Compared::Same;
     }
     if shows {
-        write_front(&line, 50);
-        write_front(&rest, 2 * n + 1);
+        write_front(to, &line, 50);
+        write_front(to, &rest, 2 * n + 1);
     }
     Compared::Differs
 }
 
-fn count_all() -> Tally {
+fn count_all(from: &mut Stdin, to: Stdout) -> Tally {
     let mut cases: u64 = 0;
     let mut differ: u64 = 0;
     while cases < 1000000 {
-        match one_case(differ < 5) {
+        match one_case(from, to, differ < 5) {
             Compared::End => {
                 return Tally { cases, differ };
             }
@@ -207,11 +209,9 @@ fn count_all() -> Tally {
     Tally { cases, differ }
 }
 
-fn main() {
-    let t = count_all();
-    io::write_all(STDOUT_FILENO, b"cases ");
-    io::print_decimal(STDOUT_FILENO, t.cases);
-    io::write_all(STDOUT_FILENO, b", differ ");
-    io::print_decimal(STDOUT_FILENO, t.differ);
-    io::write_all(STDOUT_FILENO, b"\n");
+fn main(rt: HostRuntime) -> io::Result<()> {
+    let tally = count_all(&mut rt.stdin(), rt.stdout());
+    let cases = tally.cases;
+    let differ = tally.differ;
+    println!(rt; "cases {cases}, differ {differ}")
 }

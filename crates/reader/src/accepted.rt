@@ -12,7 +12,7 @@ use figures::{
 };
 use input::HELD;
 use marker_store::{Comparisons, Warnings, Words};
-use output::{ROOM, put, put_part, put_text};
+use output::{ROOM, Streams, put, put_part, put_text};
 use spans::SpanNumbers;
 
 // As long as a name can be.
@@ -31,11 +31,18 @@ fn normalise_held(line: &[u8; HELD], start: usize, len: usize, normal: &mut [u8;
     normalise(line, start, sum(start, len), normal)
 }
 
-fn put_front(out: &mut [u8; ROOM], at: usize, text: &[u8; NAME], n: usize) -> usize {
-    put_part(out, at, text, 0, n)
+fn put_front(
+    streams: Streams,
+    out: &mut [u8; ROOM],
+    at: usize,
+    text: &[u8; NAME],
+    n: usize,
+) -> usize {
+    put_part(streams, out, at, text, 0, n)
 }
 
 pub fn put_normal_name(
+    streams: Streams,
     out: &mut [u8; ROOM],
     at: usize,
     line: &[u8; HELD],
@@ -44,20 +51,27 @@ pub fn put_normal_name(
     normal: &mut [u8; NAME],
 ) -> usize {
     let n = normalise_held(line, start, len, normal);
-    put_front(out, at, normal, n)
+    put_front(streams, out, at, normal, n)
 }
 
-fn put_url(out: &mut [u8; ROOM], at: usize, line: &[u8; HELD], figures: &LineFigures) -> usize {
+fn put_url(
+    streams: Streams,
+    out: &mut [u8; ROOM],
+    at: usize,
+    line: &[u8; HELD],
+    figures: &LineFigures,
+) -> usize {
     if figures[LINE_HAS_URL] == 0 {
         return at;
     }
-    let n = put_text(out, at, b"    URL: ");
+    let n = put_text(streams, out, at, b"    URL: ");
     let url = part_of(figures[LINE_URL_START], figures[LINE_URL_LENGTH]);
-    let n = put_shown(out, n, line, url);
-    put(out, n, b'\n')
+    let n = put_shown(streams, out, n, line, url);
+    put(streams, out, n, b'\n')
 }
 
 pub fn put_accepted(
+    streams: Streams,
     out: &mut [u8; ROOM],
     at: usize,
     path: &[u8; PATH],
@@ -71,15 +85,38 @@ pub fn put_accepted(
     words: &Words,
     normal: &mut [u8; NAME],
 ) -> usize {
-    let n = put_heading(out, at, path, place, b"accepted ");
+    let n = put_heading(streams, out, at, path, place, b"accepted ");
     let name = figures[LINE_NAME_START];
-    let n = put_normal_name(out, n, line, name, figures[LINE_NAME_LENGTH], normal);
-    let n = put(out, n, b'\n');
-    let n = put_spans(out, n, b"    extras:", line, extras, figures[LINE_EXTRAS]);
+    let n = put_normal_name(
+        streams,
+        out,
+        n,
+        line,
+        name,
+        figures[LINE_NAME_LENGTH],
+        normal,
+    );
+    let n = put(streams, out, n, b'\n');
+    let n = put_spans(
+        streams,
+        out,
+        n,
+        b"    extras:",
+        line,
+        extras,
+        figures[LINE_EXTRAS],
+    );
     let texts = figures[LINE_SPECIFIERS];
-    let n = put_spans(out, n, b"    specifiers:", line, specifiers, texts);
-    let n = put_url(out, n, line, figures);
-    let n = put_comparisons(out, n, line, comparisons, figures[LINE_COMPARISONS]);
-    let n = put_warnings(out, n, line, warnings, figures[LINE_WARNINGS]);
-    put_program(out, n, words, figures[LINE_WORDS])
+    let n = put_spans(streams, out, n, b"    specifiers:", line, specifiers, texts);
+    let n = put_url(streams, out, n, line, figures);
+    let n = put_comparisons(
+        streams,
+        out,
+        n,
+        line,
+        comparisons,
+        figures[LINE_COMPARISONS],
+    );
+    let n = put_warnings(streams, out, n, line, warnings, figures[LINE_WARNINGS]);
+    put_program(streams, out, n, words, figures[LINE_WORDS])
 }

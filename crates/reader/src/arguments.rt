@@ -1,4 +1,6 @@
 // The reader's arguments. They are gone through twice: first for the options and how many files there are, then file by file.
+use std::env::FillError;
+use std::rt::Env;
 
 // A path of the most bytes that the system takes.
 pub const PATH: usize = 4095;
@@ -21,13 +23,12 @@ pub struct Wanted {
     pub files: usize,
 }
 
-// The argument's length, or PATH + 1 for one that is too long: its front is in the array then, and errno says so.
-pub fn take(i: usize, path: &mut [u8; PATH]) -> usize {
-    let n = os::arg(i, path);
-    if os::errno() == libc::ENAMETOOLONG {
-        PATH + 1
-    } else {
-        n
+// The argument's length, or PATH + 1 for one that is too long, whose front is in the array then. None behind the last one.
+pub fn take<R: Env>(rt: &R, i: usize, path: &mut [u8; PATH]) -> Option<usize> {
+    match rt.arg(i, path) {
+        Ok(n) => Some(n),
+        Err(FillError::TooLong) => Some(PATH + 1),
+        Err(FillError::NotPresent) => None,
     }
 }
 
@@ -91,18 +92,17 @@ impl Wanted {
     }
 }
 
-fn survey_one(wanted: Wanted, i: usize, path: &mut [u8; PATH]) -> Wanted {
-    let n = take(i, path);
+fn survey_one(wanted: Wanted, path: &[u8; PATH], n: usize) -> Wanted {
     wanted.with(argument_of(path, n, wanted.names_only))
 }
 
-pub fn survey(path: &mut [u8; PATH]) -> Wanted {
-    let count = os::arg_count();
+pub fn survey<R: Env>(rt: &R, path: &mut [u8; PATH]) -> Wanted {
     let mut wanted = Wanted::nothing();
-    let mut i: usize = 1;
-    while i < count {
-        wanted = survey_one(wanted, i, path);
-        i += 1;
+    for i in 1..usize::MAX {
+        let Some(n) = take(rt, i, path) else {
+            break;
+        };
+        wanted = survey_one(wanted, path, n);
     }
     wanted
 }

@@ -6,29 +6,36 @@ use cursor::Cursor;
 use input::HELD;
 use marker_kind::Comparison;
 use marker_store::{Comparisons, Warnings, Words, load_comparison, load_warning};
-use output::{ROOM, put, put_number, put_text};
+use output::{ROOM, Streams, put, put_number, put_text};
 use program_check::MAX_WORDS;
 use refusal::Span;
 use spans::{SPAN_NUMBERS, SpanNumbers};
 use wording::{put_key, put_operator, put_sort};
 
 // Where something stands in its line.
-pub fn put_place(out: &mut [u8; ROOM], at: usize, start: usize, len: usize) -> usize {
-    let n = put_text(out, at, b" at ");
-    let n = put_number(out, n, start as u64);
-    let n = put_text(out, n, b", ");
-    put_number(out, n, len as u64)
+pub fn put_place(
+    streams: Streams,
+    out: &mut [u8; ROOM],
+    at: usize,
+    start: usize,
+    len: usize,
+) -> usize {
+    let n = put_text(streams, out, at, b" at ");
+    let n = put_number(streams, out, n, start as u64);
+    let n = put_text(streams, out, n, b", ");
+    put_number(streams, out, n, len as u64)
 }
 
-fn put_joint(out: &mut [u8; ROOM], at: usize, i: usize) -> usize {
+fn put_joint(streams: Streams, out: &mut [u8; ROOM], at: usize, i: usize) -> usize {
     if i == 0 {
-        put_text(out, at, b" ")
+        put_text(streams, out, at, b" ")
     } else {
-        put_text(out, at, b", ")
+        put_text(streams, out, at, b", ")
     }
 }
 
 fn put_item(
+    streams: Streams,
     out: &mut [u8; ROOM],
     at: usize,
     line: &[u8; HELD],
@@ -40,11 +47,12 @@ fn put_item(
     }
     let first = SPAN_NUMBERS * i;
     let item = trimmed(line, part_of(spans[first], spans[first + 1]));
-    let n = put_joint(out, at, i);
-    put_shown(out, n, line, item)
+    let n = put_joint(streams, out, at, i);
+    put_shown(streams, out, n, line, item)
 }
 
 fn put_items(
+    streams: Streams,
     out: &mut [u8; ROOM],
     at: usize,
     line: &[u8; HELD],
@@ -54,7 +62,7 @@ fn put_items(
     let mut n = at;
     let mut i: usize = 0;
     while i < count {
-        n = put_item(out, n, line, spans, i);
+        n = put_item(streams, out, n, line, spans, i);
         i += 1;
     }
     n
@@ -62,6 +70,7 @@ fn put_items(
 
 // Extras or specifiers in a row, if there are any.
 pub fn put_spans(
+    streams: Streams,
     out: &mut [u8; ROOM],
     at: usize,
     what: &[u8],
@@ -72,9 +81,9 @@ pub fn put_spans(
     if count == 0 {
         return at;
     }
-    let n = put_text(out, at, what);
-    let n = put_items(out, n, line, spans, count);
-    put(out, n, b'\n')
+    let n = put_text(streams, out, at, what);
+    let n = put_items(streams, out, n, line, spans, count);
+    put(streams, out, n, b'\n')
 }
 
 // The literal with its quotes, which stand around the span.
@@ -86,6 +95,7 @@ fn with_quotes(start: usize, len: usize) -> Part {
 }
 
 fn put_comparison(
+    streams: Streams,
     out: &mut [u8; ROOM],
     at: usize,
     line: &[u8; HELD],
@@ -101,20 +111,21 @@ fn put_comparison(
     let operator = one.operator;
     let literal: Span = one.literal;
     let quoted = with_quotes(literal.start.0, literal.len);
-    let n = put_text(out, at, b"    comparison ");
-    let n = put_number(out, n, i as u64);
-    let n = put_text(out, n, b": ");
-    let n = put_key(out, n, key);
-    let n = put(out, n, b' ');
-    let n = put_operator(out, n, operator, b' ');
-    let n = put(out, n, b' ');
-    let n = put_shown(out, n, line, quoted);
-    let n = put_text(out, n, b" (");
-    let n = put_sort(out, n, sort);
-    put_text(out, n, b")\n")
+    let n = put_text(streams, out, at, b"    comparison ");
+    let n = put_number(streams, out, n, i as u64);
+    let n = put_text(streams, out, n, b": ");
+    let n = put_key(streams, out, n, key);
+    let n = put(streams, out, n, b' ');
+    let n = put_operator(streams, out, n, operator, b' ');
+    let n = put(streams, out, n, b' ');
+    let n = put_shown(streams, out, n, line, quoted);
+    let n = put_text(streams, out, n, b" (");
+    let n = put_sort(streams, out, n, sort);
+    put_text(streams, out, n, b")\n")
 }
 
 pub fn put_comparisons(
+    streams: Streams,
     out: &mut [u8; ROOM],
     at: usize,
     line: &[u8; HELD],
@@ -124,13 +135,14 @@ pub fn put_comparisons(
     let mut n = at;
     let mut i: usize = 0;
     while i < count {
-        n = put_comparison(out, n, line, list, i);
+        n = put_comparison(streams, out, n, line, list, i);
         i += 1;
     }
     n
 }
 
 fn put_warning(
+    streams: Streams,
     out: &mut [u8; ROOM],
     at: usize,
     line: &[u8; HELD],
@@ -145,17 +157,18 @@ fn put_warning(
     let span: Span = one.span;
     let start = span.start.0;
     let len = span.len;
-    let n = put_text(out, at, b"    warning of kind ");
-    let n = put_number(out, n, kind as u64);
-    let n = put_place(out, n, start, len);
-    let n = put_text(out, n, b": ");
-    let n = put_shown(out, n, line, part_of(start, len));
-    let n = put_text(out, n, b": ");
-    let n = put_meaning(out, n, kind);
-    put(out, n, b'\n')
+    let n = put_text(streams, out, at, b"    warning of kind ");
+    let n = put_number(streams, out, n, kind as u64);
+    let n = put_place(streams, out, n, start, len);
+    let n = put_text(streams, out, n, b": ");
+    let n = put_shown(streams, out, n, line, part_of(start, len));
+    let n = put_text(streams, out, n, b": ");
+    let n = put_meaning(streams, out, n, kind);
+    put(streams, out, n, b'\n')
 }
 
 pub fn put_warnings(
+    streams: Streams,
     out: &mut [u8; ROOM],
     at: usize,
     line: &[u8; HELD],
@@ -165,7 +178,7 @@ pub fn put_warnings(
     let mut n = at;
     let mut i: usize = 0;
     while i < count {
-        n = put_warning(out, n, line, list, i);
+        n = put_warning(streams, out, n, line, list, i);
         i += 1;
     }
     n
@@ -175,46 +188,64 @@ fn word_at(words: &Words, i: usize) -> u8 {
     if i < MAX_WORDS { words[i] } else { 66 }
 }
 
-fn put_number_of(out: &mut [u8; ROOM], at: usize, word: u8) -> usize {
-    put_number(out, at, word as u64)
+fn put_number_of(streams: Streams, out: &mut [u8; ROOM], at: usize, word: u8) -> usize {
+    put_number(streams, out, at, word as u64)
 }
 
-fn put_word(out: &mut [u8; ROOM], at: usize, word: u8) -> usize {
+fn put_word(streams: Streams, out: &mut [u8; ROOM], at: usize, word: u8) -> usize {
     match word {
-        64 => put_text(out, at, b"and"),
-        65 => put_text(out, at, b"or"),
-        66 => put_text(out, at, b"yes"),
-        _ => put_number_of(out, at, word),
+        64 => put_text(streams, out, at, b"and"),
+        65 => put_text(streams, out, at, b"or"),
+        66 => put_text(streams, out, at, b"yes"),
+        _ => put_number_of(streams, out, at, word),
     }
 }
 
-fn put_numbers(out: &mut [u8; ROOM], at: usize, words: &Words, count: usize) -> usize {
+fn put_numbers(
+    streams: Streams,
+    out: &mut [u8; ROOM],
+    at: usize,
+    words: &Words,
+    count: usize,
+) -> usize {
     let mut n = at;
     let mut i: usize = 0;
     while i < count {
-        n = put(out, n, b' ');
-        n = put_number_of(out, n, word_at(words, i));
+        n = put(streams, out, n, b' ');
+        n = put_number_of(streams, out, n, word_at(words, i));
         i += 1;
     }
     n
 }
 
-fn put_words(out: &mut [u8; ROOM], at: usize, words: &Words, count: usize) -> usize {
+fn put_words(
+    streams: Streams,
+    out: &mut [u8; ROOM],
+    at: usize,
+    words: &Words,
+    count: usize,
+) -> usize {
     let mut n = at;
     let mut i: usize = 0;
     while i < count {
-        n = put(out, n, b' ');
-        n = put_word(out, n, word_at(words, i));
+        n = put(streams, out, n, b' ');
+        n = put_word(streams, out, n, word_at(words, i));
         i += 1;
     }
     n
 }
 
 // The words as numbers, and once more with the operators by name.
-pub fn put_program(out: &mut [u8; ROOM], at: usize, words: &Words, count: usize) -> usize {
-    let n = put_text(out, at, b"    program:");
-    let n = put_numbers(out, n, words, count);
-    let n = put_text(out, n, b" =");
-    let n = put_words(out, n, words, count);
-    put(out, n, b'\n')
+pub fn put_program(
+    streams: Streams,
+    out: &mut [u8; ROOM],
+    at: usize,
+    words: &Words,
+    count: usize,
+) -> usize {
+    let n = put_text(streams, out, at, b"    program:");
+    let n = put_numbers(streams, out, n, words, count);
+    let n = put_text(streams, out, n, b" =");
+    let n = put_words(streams, out, n, words, count);
+    put(streams, out, n, b'\n')
 }

@@ -5,41 +5,55 @@ use crate::place::{Place, Style};
 use crate::plain::put_not_read_row;
 use crate::tally::{COUNTS, NOT_READ, count};
 use input::HELD;
-use libc::STDIN_FILENO;
-use output::{ROOM, flush};
+use output::{ROOM, Streams, flush};
+use std::io::ErrorKind;
+use std::rt::{Env, Files};
+use std::{fs, io, str};
 
-fn open_front(path: &[u8], n: usize) -> i32 {
-    if n <= path.len() {
-        os::open_read(&path[..n])
-    } else {
-        -1
+// The system's number for a name that is too long.
+const NAME_TOO_LONG: i32 = 36;
+
+// A name is passed on as text, so one that is none names no file here.
+fn open_named<R: Files>(rt: &R, name: &[u8]) -> io::Result<R::File> {
+    match str::from_utf8(name) {
+        Ok(text) => fs::open(rt, text),
+        Err(_) => Err(io::Error::new(ErrorKind::InvalidFilename, "The name is not UTF-8")),
     }
 }
 
-// A descriptor, or -1 and errno.
-fn open(path: &[u8; PATH], n: usize) -> i32 {
-    open_front(path, n)
+fn open_front<R: Files>(rt: &R, path: &[u8], n: usize) -> io::Result<R::File> {
+    if n <= path.len() {
+        open_named(rt, &path[..n])
+    } else {
+        Err(io::Error::from_raw_os_error(NAME_TOO_LONG))
+    }
+}
+
+fn open<R: Files>(rt: &R, path: &[u8; PATH], n: usize) -> io::Result<R::File> {
+    open_front(rt, path, n)
 }
 
 // A name that is too long is told by its front.
-fn tell_failure(path: &[u8], n: usize) {
+fn tell_failure(streams: Streams, path: &[u8], n: usize, why: io::Error) {
     if n <= path.len() {
-        os::fail(&path[..n]);
+        output::tell_failure(streams, &path[..n], why);
     } else {
-        os::fail(path);
+        output::tell_failure(streams, path, why);
     }
 }
 
 // Names the file and why it was not read to its end.
 fn not_read(
+    streams: Streams,
     style: Style,
     path: &[u8; PATH],
     n: usize,
+    why: io::Error,
     counts: &mut [u64; COUNTS],
     out: &mut [u8; ROOM],
     at: usize,
 ) -> usize {
-    tell_failure(path, n);
+    tell_failure(streams, path, n, why);
     count(counts, NOT_READ);
     if !style.plain {
         return at;
@@ -49,11 +63,12 @@ fn not_read(
         path_len: n,
         number: 0,
     };
-    put_not_read_row(out, at, path, place)
+    put_not_read_row(streams, out, at, path, place)
 }
 
 // What waits is written before a fault is told, so that the two come in order.
 fn end_file(
+    streams: Streams,
     come: Come,
     style: Style,
     path: &[u8; PATH],
@@ -61,15 +76,16 @@ fn end_file(
     counts: &mut [u64; COUNTS],
     out: &mut [u8; ROOM],
 ) -> usize {
-    let at = flush(out, come.at);
-    if come.failed {
-        not_read(style, path, n, counts, out, at)
-    } else {
-        at
+    let at = flush(streams, out, come.at);
+    match come.fault {
+        Some(why) => not_read(streams, style, path, n, why, counts, out, at),
+        None => at,
     }
 }
 
-fn read_input(
+fn read_input<R: Input>(
+    rt: &R,
+    streams: Streams,
     style: Style,
     path: &[u8; PATH],
     n: usize,
@@ -79,11 +95,16 @@ fn read_input(
     out: &mut [u8; ROOM],
     at: usize,
 ) -> usize {
-    let come = read_lines(STDIN_FILENO, style, path, n, fetched, line, counts, out, at);
-    end_file(come, style, path, n, counts, out)
+    let mut from = rt.reader();
+    let come = read_lines(
+        &mut from, streams, style, path, n, fetched, line, counts, out, at,
+    );
+    end_file(streams, come, style, path, n, counts, out)
 }
 
-fn read_file(
+fn read_file<R: Files>(
+    rt: &R,
+    streams: Streams,
     style: Style,
     path: &[u8; PATH],
     n: usize,
@@ -93,14 +114,15 @@ fn read_file(
     out: &mut [u8; ROOM],
     at: usize,
 ) -> usize {
-    let fd = open(path, n);
-    if fd < 0 {
-        return not_read(style, path, n, counts, out, at);
+    match open(rt, path, n) {
+        Ok(mut file) => {
+            let come = read_lines(
+                &mut file, streams, style, path, n, fetched, line, counts, out, at,
+            );
+            end_file(streams, come, style, path, n, counts, out)
+        }
+        Err(why) => not_read(streams, style, path, n, why, counts, out, at),
     }
-    let come = read_lines(fd, style, path, n, fetched, line, counts, out, at);
-    let waits = end_file(come, style, path, n, counts, out);
-    libc::close(fd);
-    waits
 }
 
 fn name_input(path: &mut [u8; PATH]) -> usize {
@@ -108,7 +130,9 @@ fn name_input(path: &mut [u8; PATH]) -> usize {
     1
 }
 
-fn read_argument(
+fn read_argument<R: Files + Input>(
+    rt: &R,
+    streams: Streams,
     style: Style,
     path: &[u8; PATH],
     n: usize,
@@ -120,15 +144,17 @@ fn read_argument(
     at: usize,
 ) -> usize {
     match argument_of(path, n, names_only) {
-        Argument::File => read_file(style, path, n, fetched, line, counts, out, at),
-        Argument::Input => read_input(style, path, n, fetched, line, counts, out, at),
+        Argument::File => read_file(rt, streams, style, path, n, fetched, line, counts, out, at),
+        Argument::Input => read_input(rt, streams, style, path, n, fetched, line, counts, out, at),
         Argument::NamesFollow => at,
         Argument::Plain => at,
         Argument::Unknown => at,
     }
 }
 
-fn read_arguments(
+fn read_arguments<R: Env + Files + Input>(
+    rt: &R,
+    streams: Streams,
     style: Style,
     path: &mut [u8; PATH],
     fetched: &mut [u8; input::ROOM],
@@ -136,21 +162,24 @@ fn read_arguments(
     counts: &mut [u64; COUNTS],
     out: &mut [u8; ROOM],
 ) -> usize {
-    let end = os::arg_count();
     let mut names_only = false;
     let mut at: usize = 0;
-    let mut i: usize = 1;
-    while i < end {
-        let n = take(i, path);
-        at = read_argument(style, path, n, names_only, fetched, line, counts, out, at);
+    for i in 1..usize::MAX {
+        let Some(n) = take(rt, i, path) else {
+            break;
+        };
+        at = read_argument(
+            rt, streams, style, path, n, names_only, fetched, line, counts, out, at,
+        );
         names_only = names_only | ends_options(path, n);
-        i += 1;
     }
     at
 }
 
 // Standard input, where no file is named. Answers what waits in the output.
-pub fn read_all(
+pub fn read_all<R: Env + Files + Input>(
+    rt: &R,
+    streams: Streams,
     plain: bool,
     files: usize,
     path: &mut [u8; PATH],
@@ -165,7 +194,7 @@ pub fn read_all(
     };
     if files == 0 {
         let n = name_input(path);
-        return read_input(style, path, n, fetched, line, counts, out, 0);
+        return read_input(rt, streams, style, path, n, fetched, line, counts, out, 0);
     }
-    read_arguments(style, path, fetched, line, counts, out)
+    read_arguments(rt, streams, style, path, fetched, line, counts, out)
 }

@@ -8,28 +8,29 @@ use crate::refused::put_refused;
 use crate::tally::{COUNTS, LINES, PASSED_OVER, count, counted};
 use figures::{LENGTH, LINE_FIGURES, LineFigures, START};
 use input::{Ended, Feed, HELD};
-use libc::{STDERR_FILENO, STDOUT_FILENO};
 use marker_store::{COMPARISONS_ROOM, Comparisons, WARNINGS_ROOM, Warnings, Words};
-use output::ROOM;
+use output::{ROOM, Streams};
 use program_check::MAX_WORDS;
 use spans::{LIST_NUMBERS, SpanNumbers};
+use std::io;
+use std::io::{IsTerminal, Read};
 
-// How far reading came: what waits in the output, and whether a read failed.
+// How far reading came: what waits in the output, and why a read failed, if one did.
 #[derive(Clone, Copy)]
 pub struct Come {
     pub at: usize,
-    pub failed: bool,
+    pub fault: Option<io::Error>,
 }
 
 // Someone waits at a terminal and does not see the output there, which would show that work goes on.
-fn is_watched() -> bool {
-    libc::isatty(STDERR_FILENO) == 1 && libc::isatty(STDOUT_FILENO) == 0
+fn is_watched(streams: Streams) -> bool {
+    streams.err.is_terminal() && !streams.out.is_terminal()
 }
 
-fn show_progress(lines: u64) {
-    if lines % 10000 == 0 && is_watched() {
-        io::print_decimal(STDERR_FILENO, lines);
-        io::write_all(STDERR_FILENO, b" lines read\n");
+fn show_progress(streams: Streams, lines: u64) {
+    if lines % 10000 == 0 && is_watched(streams) {
+        let err = streams.err;
+        let _ = println!(err; "{lines} lines read");
     }
 }
 
@@ -93,6 +94,7 @@ fn read_held(
 }
 
 fn tell_refused(
+    streams: Streams,
     style: Style,
     path: &[u8; PATH],
     place: Place,
@@ -105,6 +107,7 @@ fn tell_refused(
 ) -> usize {
     if style.plain {
         put_refused_row(
+            streams,
             out,
             at,
             path,
@@ -114,11 +117,12 @@ fn tell_refused(
             figures[LENGTH],
         )
     } else {
-        put_refused(out, at, path, place, line, len, number, figures)
+        put_refused(streams, out, at, path, place, line, len, number, figures)
     }
 }
 
 fn tell_accepted(
+    streams: Streams,
     style: Style,
     path: &[u8; PATH],
     place: Place,
@@ -135,6 +139,7 @@ fn tell_accepted(
 ) -> usize {
     if style.plain {
         put_accepted_row(
+            streams,
             out,
             at,
             path,
@@ -150,6 +155,7 @@ fn tell_accepted(
         )
     } else {
         put_accepted(
+            streams,
             out,
             at,
             path,
@@ -168,6 +174,7 @@ fn tell_accepted(
 
 // The arrays for what is read stand here, so that no function above takes them: they are small beside what is written of a line.
 fn tell_line(
+    streams: Streams,
     style: Style,
     path: &[u8; PATH],
     place: Place,
@@ -196,9 +203,12 @@ fn tell_line(
     );
     count(counts, number as usize);
     if number > 0 {
-        return tell_refused(style, path, place, line, len, number, &figures, out, at);
+        return tell_refused(
+            streams, style, path, place, line, len, number, &figures, out, at,
+        );
     }
     tell_accepted(
+        streams,
         style,
         path,
         place,
@@ -216,6 +226,7 @@ fn tell_line(
 }
 
 fn read_one(
+    streams: Streams,
     style: Style,
     path: &[u8; PATH],
     place: Place,
@@ -227,12 +238,14 @@ fn read_one(
     at: usize,
 ) -> usize {
     count(counts, LINES);
-    show_progress(counted(counts, LINES));
+    show_progress(streams, counted(counts, LINES));
     if is_passed_over(line, len) {
         count(counts, PASSED_OVER);
         return at;
     }
-    tell_line(style, path, place, line, len, counts, normal, out, at)
+    tell_line(
+        streams, style, path, place, line, len, counts, normal, out, at,
+    )
 }
 
 // What the input gave: a line of a length, without the CR before its LF, or none. A last line without LF is one; what stands before a fault is none, since it may be cut.
@@ -240,7 +253,7 @@ fn read_one(
 enum Taken {
     Line(usize),
     End,
-    Fault,
+    Fault(io::Error),
 }
 
 fn without_return(len: usize, last: u8) -> usize {
@@ -254,7 +267,7 @@ fn without_return(len: usize, last: u8) -> usize {
 fn taken_of(ended: Ended, len: usize, last: u8) -> Taken {
     match ended {
         Ended::ByLineFeed => Taken::Line(without_return(len, last)),
-        Ended::ByFault => Taken::Fault,
+        Ended::ByFault(why) => Taken::Fault(why),
         Ended::ByEnd => if len > 0 {
             Taken::Line(len)
         } else {
@@ -263,8 +276,9 @@ fn taken_of(ended: Ended, len: usize, last: u8) -> Taken {
     }
 }
 
-fn each_line(
-    fd: i32,
+fn each_line<R: Read>(
+    from: &mut R,
+    streams: Streams,
     style: Style,
     path: &[u8; PATH],
     path_len: usize,
@@ -279,22 +293,19 @@ fn each_line(
     let mut n = at;
     let mut number: u64 = 0;
     while number < u64::MAX {
-        let got = input::take_line(fd, fetched, feed, line);
+        let got = input::take_line(from, fetched, feed, line);
         feed = got.feed;
         number += 1;
         let ended = got.ended;
         match taken_of(ended, got.len, got.last) {
-            Taken::Fault => {
+            Taken::Fault(why) => {
                 return Come {
                     at: n,
-                    failed: true,
+                    fault: Some(why),
                 };
             }
             Taken::End => {
-                return Come {
-                    at: n,
-                    failed: false,
-                };
+                return Come { at: n, fault: None };
             }
             Taken::Line(len) => {
                 let place = Place {
@@ -302,19 +313,19 @@ fn each_line(
                     path_len,
                     number,
                 };
-                n = read_one(style, path, place, line, len, counts, normal, out, n);
+                n = read_one(
+                    streams, style, path, place, line, len, counts, normal, out, n,
+                );
             }
         }
     }
-    Come {
-        at: n,
-        failed: false,
-    }
+    Come { at: n, fault: None }
 }
 
 // Room for a name's normal form stands here, once for a file.
-pub fn read_lines(
-    fd: i32,
+pub fn read_lines<R: Read>(
+    from: &mut R,
+    streams: Streams,
     style: Style,
     path: &[u8; PATH],
     path_len: usize,
@@ -326,7 +337,8 @@ pub fn read_lines(
 ) -> Come {
     let mut normal = [0u8; NAME];
     each_line(
-        fd,
+        from,
+        streams,
         style,
         path,
         path_len,

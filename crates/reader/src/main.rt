@@ -16,33 +16,34 @@ mod tally;
 
 use arguments::PATH;
 use input::HELD;
-use libc::STDERR_FILENO;
-use output::ROOM;
+use output::{ROOM, Streams};
 use tally::COUNTS;
 
-fn usage() {
-    io::write_all(
-        STDERR_FILENO,
+fn usage(streams: Streams) {
+    let _ = streams.err.write_all(
         b"usage: ./hulmisker read [--plain] [--] [FILE..]   (- or no FILE: standard input)\n",
     );
 }
 
 // The last line: what was counted. Rows are for other tools and have none.
-fn end(plain: bool, counts: &[u64; COUNTS], out: &mut [u8; ROOM], at: usize) {
+fn end(streams: Streams, plain: bool, counts: &[u64; COUNTS], out: &mut [u8; ROOM], at: usize) {
     let n = if plain {
         at
     } else {
-        tally::put_tally(counts, out, at)
+        tally::put_tally(streams, counts, out, at)
     };
-    output::flush(out, n);
+    output::flush(streams, out, n);
 }
 
-fn run(plain: bool, files: usize, path: &mut [u8; PATH]) {
+fn run(rt: &HostRuntime, plain: bool, files: usize, path: &mut [u8; PATH]) {
+    let streams = Streams::of(rt);
     let mut fetched = [0u8; input::ROOM];
     let mut line = [0u8; HELD];
     let mut out = [0u8; ROOM];
     let mut counts = [0u64; COUNTS];
     let at = files::read_all(
+        rt,
+        streams,
         plain,
         files,
         path,
@@ -51,15 +52,15 @@ fn run(plain: bool, files: usize, path: &mut [u8; PATH]) {
         &mut counts,
         &mut out,
     );
-    end(plain, &counts, &mut out, at);
+    end(streams, plain, &counts, &mut out, at);
 }
 
-fn main() {
+fn main(rt: HostRuntime) {
     let mut path = [0u8; PATH];
-    let wanted = arguments::survey(&mut path);
+    let wanted = arguments::survey(&rt, &mut path);
     if wanted.unknown {
-        usage();
+        usage(Streams::of(&rt));
     } else {
-        run(wanted.plain, wanted.files, &mut path);
+        run(&rt, wanted.plain, wanted.files, &mut path);
     }
 }

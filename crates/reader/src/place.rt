@@ -1,6 +1,6 @@
 // Which line of which file is spoken of.
 use crate::arguments::PATH;
-use output::{ROOM, put, put_number, put_text};
+use output::{ROOM, Streams, put, put_number, put_text};
 
 // How it is told: as rows for other tools, and with the file's name where there are several.
 #[derive(Clone, Copy)]
@@ -25,11 +25,17 @@ fn name_byte(b: u8) -> u8 {
     }
 }
 
-fn put_path(out: &mut [u8; ROOM], at: usize, path: &[u8; PATH], len: usize) -> usize {
+fn put_path(
+    streams: Streams,
+    out: &mut [u8; ROOM],
+    at: usize,
+    path: &[u8; PATH],
+    len: usize,
+) -> usize {
     let mut n = at;
     let mut i: usize = 0;
     while i < len && i < PATH {
-        n = put(out, n, name_byte(path[i]));
+        n = put(streams, out, n, name_byte(path[i]));
         i += 1;
     }
     n
@@ -37,6 +43,7 @@ fn put_path(out: &mut [u8; ROOM], at: usize, path: &[u8; PATH], len: usize) -> u
 
 // The file's name, where there are several.
 pub fn put_name(
+    streams: Streams,
     out: &mut [u8; ROOM],
     at: usize,
     path: &[u8; PATH],
@@ -46,27 +53,34 @@ pub fn put_name(
     if !place.named {
         return at;
     }
-    let n = put_path(out, at, path, place.path_len);
-    put(out, n, behind)
+    let n = put_path(streams, out, at, path, place.path_len);
+    put(streams, out, n, behind)
 }
 
 // The front of a row.
-pub fn put_columns(out: &mut [u8; ROOM], at: usize, path: &[u8; PATH], place: Place) -> usize {
-    let n = put_name(out, at, path, place, b'\t');
-    let n = put_number(out, n, place.number);
-    put(out, n, b'\t')
+pub fn put_columns(
+    streams: Streams,
+    out: &mut [u8; ROOM],
+    at: usize,
+    path: &[u8; PATH],
+    place: Place,
+) -> usize {
+    let n = put_name(streams, out, at, path, place, b'\t');
+    let n = put_number(streams, out, n, place.number);
+    put(streams, out, n, b'\t')
 }
 
 // The front of a block.
 pub fn put_heading(
+    streams: Streams,
     out: &mut [u8; ROOM],
     at: usize,
     path: &[u8; PATH],
     place: Place,
     verdict: &[u8],
 ) -> usize {
-    let n = put_name(out, at, path, place, b':');
-    let n = put_number(out, n, place.number);
-    let n = put_text(out, n, b": ");
-    put_text(out, n, verdict)
+    let n = put_name(streams, out, at, path, place, b':');
+    let n = put_number(streams, out, n, place.number);
+    let n = put_text(streams, out, n, b": ");
+    put_text(streams, out, n, verdict)
 }

@@ -3,9 +3,9 @@
 #![tactic(auto)]
 
 use input::{Ended, Feed, HELD};
-use libc::STDIN_FILENO;
-use output::ROOM;
+use output::{ROOM, Streams};
 use requests::{DATA, OUT};
+use std::io::Stdin;
 
 // So many cases that differ are written out.
 const SHOWN: u64 = 5;
@@ -69,6 +69,7 @@ fn agrees(line: &[u8; HELD], tab: usize, len: usize, answer: &[u8; ROOM], n: usi
 
 // The case as the list has it, and the answer here.
 fn show(
+    streams: Streams,
     line: &[u8; HELD],
     len: usize,
     answer: &[u8; ROOM],
@@ -76,13 +77,14 @@ fn show(
     buf: &mut [u8; ROOM],
     at: usize,
 ) -> usize {
-    let m = output::put_part(buf, at, line, 0, len);
-    let m = output::put_text(buf, m, b"\n  here: ");
-    let m = output::put_part(buf, m, answer, 0, n);
-    output::put(buf, m, b'\n')
+    let m = output::put_part(streams, buf, at, line, 0, len);
+    let m = output::put_text(streams, buf, m, b"\n  here: ");
+    let m = output::put_part(streams, buf, m, answer, 0, n);
+    output::put(streams, buf, m, b'\n')
 }
 
 fn show_if(
+    streams: Streams,
     wanted: bool,
     line: &[u8; HELD],
     len: usize,
@@ -92,7 +94,7 @@ fn show_if(
     at: usize,
 ) -> usize {
     if wanted {
-        show(line, len, answer, n, buf, at)
+        show(streams, line, len, answer, n, buf, at)
     } else {
         at
     }
@@ -117,6 +119,7 @@ fn counted(tally: Tally, same: bool, waiting: usize) -> Tally {
 }
 
 fn one_case(
+    streams: Streams,
     tally: Tally,
     line: &[u8; HELD],
     len: usize,
@@ -126,15 +129,17 @@ fn one_case(
     buf: &mut [u8; ROOM],
 ) -> Tally {
     let tab = tab_in(line, len);
-    let n = requests::answer(line, tab, data, out, answer, 0);
+    let n = requests::answer(streams, line, tab, data, out, answer, 0);
     let same = agrees(line, tab, len, answer, n);
     let shows = !same & (tally.differ < SHOWN);
-    let waiting = show_if(shows, line, len, answer, n, buf, tally.waiting);
+    let waiting = show_if(streams, shows, line, len, answer, n, buf, tally.waiting);
     counted(tally, same, waiting)
 }
 
 // Each line that ends in a line feed is a case.
 fn count_all(
+    from: &mut Stdin,
+    streams: Streams,
     fetched: &mut [u8; input::ROOM],
     line: &mut [u8; HELD],
     data: &mut [u8; DATA],
@@ -150,12 +155,12 @@ fn count_all(
     };
     let mut turns = u64::MAX;
     while 0 < turns {
-        let got = input::take_line(STDIN_FILENO, fetched, feed, line);
+        let got = input::take_line(from, fetched, feed, line);
         feed = got.feed;
         let ended = got.ended;
         match ended {
             Ended::ByLineFeed => {
-                tally = one_case(tally, line, got.len, data, out, answer, buf);
+                tally = one_case(streams, tally, line, got.len, data, out, answer, buf);
                 turns -= 1;
             }
             _ => {
@@ -166,7 +171,8 @@ fn count_all(
     tally
 }
 
-fn main() {
+fn main(rt: HostRuntime) {
+    let streams = Streams::of(&rt);
     let mut fetched = [0u8; input::ROOM];
     let mut line = [0u8; HELD];
     let mut data = [0u8; DATA];
@@ -174,6 +180,8 @@ fn main() {
     let mut answer = [0u8; ROOM];
     let mut buf = [0u8; ROOM];
     let tally = count_all(
+        &mut rt.stdin(),
+        streams,
         &mut fetched,
         &mut line,
         &mut data,
@@ -181,9 +189,9 @@ fn main() {
         &mut answer,
         &mut buf,
     );
-    let n = output::put_number(&mut buf, tally.waiting, tally.cases);
-    let n = output::put_text(&mut buf, n, b" cases, ");
-    let n = output::put_number(&mut buf, n, tally.differ);
-    let n = output::put_text(&mut buf, n, b" differ\n");
-    output::flush(&buf, n);
+    let n = output::put_number(streams, &mut buf, tally.waiting, tally.cases);
+    let n = output::put_text(streams, &mut buf, n, b" cases, ");
+    let n = output::put_number(streams, &mut buf, n, tally.differ);
+    let n = output::put_text(streams, &mut buf, n, b" differ\n");
+    output::flush(streams, &buf, n);
 }

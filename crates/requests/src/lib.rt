@@ -10,7 +10,7 @@ mod fields;
 use answers::{put_answer, put_bad};
 use fields::read_request;
 use input::HELD;
-use output::ROOM;
+use output::{ROOM, Streams};
 
 // More bytes than a request spells.
 pub const DATA: usize = 10000;
@@ -22,6 +22,7 @@ pub const OUT: usize = 8192;
 const MOST: usize = 20000;
 
 fn answer_front(
+    streams: Streams,
     line: &[u8],
     len: usize,
     data: &mut [u8; DATA],
@@ -32,18 +33,19 @@ fn answer_front(
     ensures { result ≤ max at most_waiting }
 {
     if MOST < len {
-        return put_bad(buf, at);
+        return put_bad(streams, buf, at);
     }
     if line.len() < len {
-        return put_bad(buf, at);
+        return put_bad(streams, buf, at);
     }
     let request = read_request(&line[..len], data);
-    put_answer(request, data, out, buf, at)
+    put_answer(streams, request, data, out, buf, at)
 }
 
 // Answers the request that stands in the first `len` bytes of the line. `data` and `out` are room for it, whatever they hold. The answer has no line end, and
 // goes where `output` gathers text: so many bytes wait there afterwards.
 pub fn answer(
+    streams: Streams,
     line: &[u8; HELD],
     len: usize,
     data: &mut [u8; DATA],
@@ -53,5 +55,5 @@ pub fn answer(
 ) -> usize
     ensures { result ≤ max at most_waiting }
 {
-    answer_front(line, len, data, out, buf, at)
+    answer_front(streams, line, len, data, out, buf, at)
 }

@@ -3,8 +3,11 @@
 
 ghost use Rattle.std.specs.Prelude.{◌≤◌, length};
 
-use libc::{STDIN_FILENO, STDOUT_FILENO};
 use refusal::Outcome;
+use std::io;
+
+// As much of the list as is read.
+const LIST: usize = 65536;
 
 #[derive(Clone, Copy)]
 struct Tally {
@@ -72,13 +75,11 @@ fn count(list: &[u8]) -> Tally {
     Tally { cases, differ }
 }
 
-fn main() {
-    let mut space = io::large_buffer();
-    let n = io::read_full(STDIN_FILENO, &mut space);
+fn main(rt: HostRuntime) -> io::Result<()> {
+    let mut space = [0u8; LIST];
+    let n = input::read_full(&mut rt.stdin(), &mut space);
     let tally = count(&space[..n]);
-    io::write_all(STDOUT_FILENO, b"cases ");
-    io::print_decimal(STDOUT_FILENO, tally.cases);
-    io::write_all(STDOUT_FILENO, b", differ ");
-    io::print_decimal(STDOUT_FILENO, tally.differ);
-    io::write_all(STDOUT_FILENO, b"\n");
+    let cases = tally.cases;
+    let differ = tally.differ;
+    println!(rt; "cases {cases}, differ {differ}")
 }

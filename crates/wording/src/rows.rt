@@ -9,66 +9,66 @@ use figures::{
     LINE_SPECIFIERS, LINE_URL_LENGTH, LINE_URL_START, LINE_WARNINGS, LINE_WORDS, LineFigures,
 };
 use marker_store::{Comparisons, Counts, Warnings, Words, load_comparison, load_warning};
-use output::{ROOM, put, put_number, put_text};
+use output::{Streams, ROOM, put, put_number, put_text};
 use program_check::MAX_WORDS;
 use refusal::Span;
 use spans::{SPAN_NUMBERS, SpanNumbers};
 
-fn put_count(buf: &mut [u8; ROOM], at: usize, n: usize) -> usize
+fn put_count(streams: Streams, buf: &mut [u8; ROOM], at: usize, n: usize) -> usize
     ensures { result ≤ max at most_waiting }
 {
-    put_number(buf, at, n as u64)
+    put_number(streams, buf, at, n as u64)
 }
 
 // A start and a length, with a comma between, or a blank.
-fn put_pair(buf: &mut [u8; ROOM], at: usize, start: usize, between: u8, len: usize) -> usize
+fn put_pair(streams: Streams, buf: &mut [u8; ROOM], at: usize, start: usize, between: u8, len: usize) -> usize
     ensures { result ≤ max at most_waiting }
 {
-    let n = put_count(buf, at, start);
-    let n = put(buf, n, between);
-    put_count(buf, n, len)
+    let n = put_count(streams, buf, at, start);
+    let n = put(streams, buf, n, between);
+    put_count(streams, buf, n, len)
 }
 
-fn put_span(buf: &mut [u8; ROOM], at: usize, start: usize, len: usize) -> usize
+fn put_span(streams: Streams, buf: &mut [u8; ROOM], at: usize, start: usize, len: usize) -> usize
     ensures { result ≤ max at most_waiting }
 {
-    put_pair(buf, at, start, b',', len)
+    put_pair(streams, buf, at, start, b',', len)
 }
 
-pub fn put_refused(buf: &mut [u8; ROOM], at: usize, number: u8, start: usize, len: usize) -> usize
+pub fn put_refused(streams: Streams, buf: &mut [u8; ROOM], at: usize, number: u8, start: usize, len: usize) -> usize
     ensures { result ≤ max at most_waiting }
 {
-    let n = put_text(buf, at, b"refused ");
-    let n = put_number(buf, n, number as u64);
-    let n = put(buf, n, b' ');
-    put_pair(buf, n, start, b' ', len)
+    let n = put_text(streams, buf, at, b"refused ");
+    let n = put_number(streams, buf, n, number as u64);
+    let n = put(streams, buf, n, b' ');
+    put_pair(streams, buf, n, start, b' ', len)
 }
 
 // Between the items of a list.
-fn put_joint(buf: &mut [u8; ROOM], at: usize, item: usize, joint: u8) -> usize
+fn put_joint(streams: Streams, buf: &mut [u8; ROOM], at: usize, item: usize, joint: u8) -> usize
     ensures { result ≤ max at most_waiting }
 {
-    if 0 < item { put(buf, at, joint) } else { at }
+    if 0 < item { put(streams, buf, at, joint) } else { at }
 }
 
-fn put_item(buf: &mut [u8; ROOM], at: usize, spans: &SpanNumbers, i: usize) -> usize
+fn put_item(streams: Streams, buf: &mut [u8; ROOM], at: usize, spans: &SpanNumbers, i: usize) -> usize
     ensures { result ≤ max at most_waiting }
 {
     if Cursor::MAX_LIST <= i {
         return at;
     }
     let first = SPAN_NUMBERS * i;
-    put_span(buf, at, spans[first], spans[first + 1])
+    put_span(streams, buf, at, spans[first], spans[first + 1])
 }
 
-fn put_items(buf: &mut [u8; ROOM], at: usize, spans: &SpanNumbers, count: usize) -> usize
+fn put_items(streams: Streams, buf: &mut [u8; ROOM], at: usize, spans: &SpanNumbers, count: usize) -> usize
     ensures { result ≤ max at most_waiting }
 {
     let mut n = at;
     let mut i: usize = 0;
     while i < count {
-        n = put_joint(buf, n, i, b';');
-        n = put_item(buf, n, spans, i);
+        n = put_joint(streams, buf, n, i, b';');
+        n = put_item(streams, buf, n, spans, i);
         i += 1;
     }
     n
@@ -76,6 +76,7 @@ fn put_items(buf: &mut [u8; ROOM], at: usize, spans: &SpanNumbers, count: usize)
 
 // A list of spans, behind its label.
 pub fn put_spans(
+    streams: Streams,
     buf: &mut [u8; ROOM],
     at: usize,
     label: &[u8],
@@ -84,11 +85,11 @@ pub fn put_spans(
 ) -> usize
     ensures { result ≤ max at most_waiting }
 {
-    let n = put_text(buf, at, label);
-    put_items(buf, n, spans, count)
+    let n = put_text(streams, buf, at, label);
+    put_items(streams, buf, n, spans, count)
 }
 
-fn put_comparison(buf: &mut [u8; ROOM], at: usize, list: &Comparisons, i: usize) -> usize
+fn put_comparison(streams: Streams, buf: &mut [u8; ROOM], at: usize, list: &Comparisons, i: usize) -> usize
     ensures { result ≤ max at most_waiting }
 {
     if Cursor::MAX_COMPARISONS <= i {
@@ -99,29 +100,29 @@ fn put_comparison(buf: &mut [u8; ROOM], at: usize, list: &Comparisons, i: usize)
     let key = one.key;
     let operator = one.operator;
     let literal: Span = one.literal;
-    let n = put_sort(buf, at, sort);
-    let n = put(buf, n, b',');
-    let n = put_key(buf, n, key);
-    let n = put(buf, n, b',');
-    let n = put_operator(buf, n, operator, b'_');
-    let n = put(buf, n, b',');
-    put_span(buf, n, literal.start.0, literal.len)
+    let n = put_sort(streams, buf, at, sort);
+    let n = put(streams, buf, n, b',');
+    let n = put_key(streams, buf, n, key);
+    let n = put(streams, buf, n, b',');
+    let n = put_operator(streams, buf, n, operator, b'_');
+    let n = put(streams, buf, n, b',');
+    put_span(streams, buf, n, literal.start.0, literal.len)
 }
 
-fn put_comparisons(buf: &mut [u8; ROOM], at: usize, list: &Comparisons, count: usize) -> usize
+fn put_comparisons(streams: Streams, buf: &mut [u8; ROOM], at: usize, list: &Comparisons, count: usize) -> usize
     ensures { result ≤ max at most_waiting }
 {
     let mut n = at;
     let mut i: usize = 0;
     while i < count {
-        n = put_joint(buf, n, i, b';');
-        n = put_comparison(buf, n, list, i);
+        n = put_joint(streams, buf, n, i, b';');
+        n = put_comparison(streams, buf, n, list, i);
         i += 1;
     }
     n
 }
 
-fn put_warning(buf: &mut [u8; ROOM], at: usize, list: &Warnings, i: usize) -> usize
+fn put_warning(streams: Streams, buf: &mut [u8; ROOM], at: usize, list: &Warnings, i: usize) -> usize
     ensures { result ≤ max at most_waiting }
 {
     if Cursor::MAX_COMPARISONS <= i {
@@ -129,38 +130,38 @@ fn put_warning(buf: &mut [u8; ROOM], at: usize, list: &Warnings, i: usize) -> us
     }
     let one = load_warning(list, i);
     let span: Span = one.span;
-    let n = put_count(buf, at, one.kind);
-    let n = put(buf, n, b',');
-    put_span(buf, n, span.start.0, span.len)
+    let n = put_count(streams, buf, at, one.kind);
+    let n = put(streams, buf, n, b',');
+    put_span(streams, buf, n, span.start.0, span.len)
 }
 
-fn put_warnings(buf: &mut [u8; ROOM], at: usize, list: &Warnings, count: usize) -> usize
+fn put_warnings(streams: Streams, buf: &mut [u8; ROOM], at: usize, list: &Warnings, count: usize) -> usize
     ensures { result ≤ max at most_waiting }
 {
     let mut n = at;
     let mut i: usize = 0;
     while i < count {
-        n = put_joint(buf, n, i, b';');
-        n = put_warning(buf, n, list, i);
+        n = put_joint(streams, buf, n, i, b';');
+        n = put_warning(streams, buf, n, list, i);
         i += 1;
     }
     n
 }
 
-fn put_word(buf: &mut [u8; ROOM], at: usize, word: u8) -> usize
+fn put_word(streams: Streams, buf: &mut [u8; ROOM], at: usize, word: u8) -> usize
     ensures { result ≤ max at most_waiting }
 {
-    put_number(buf, at, word as u64)
+    put_number(streams, buf, at, word as u64)
 }
 
-fn put_words(buf: &mut [u8; ROOM], at: usize, words: &Words, count: usize) -> usize
+fn put_words(streams: Streams, buf: &mut [u8; ROOM], at: usize, words: &Words, count: usize) -> usize
     ensures { result ≤ max at most_waiting }
 {
     let mut n = at;
     let mut i: usize = 0;
     while i < count && i < MAX_WORDS {
-        n = put_joint(buf, n, i, b',');
-        n = put_word(buf, n, words[i]);
+        n = put_joint(streams, buf, n, i, b',');
+        n = put_word(streams, buf, n, words[i]);
         i += 1;
     }
     n
@@ -168,6 +169,7 @@ fn put_words(buf: &mut [u8; ROOM], at: usize, words: &Words, count: usize) -> us
 
 // The three lists of a marker, and how many there are of each.
 pub fn put_marker(
+    streams: Streams,
     buf: &mut [u8; ROOM],
     at: usize,
     comparisons: &Comparisons,
@@ -177,26 +179,27 @@ pub fn put_marker(
 ) -> usize
     ensures { result ≤ max at most_waiting }
 {
-    let n = put_text(buf, at, b" comparisons=");
-    let n = put_comparisons(buf, n, comparisons, counts.kept);
-    let n = put_text(buf, n, b" warnings=");
-    let n = put_warnings(buf, n, warnings, counts.warned);
-    let n = put_text(buf, n, b" program=");
-    put_words(buf, n, words, counts.words)
+    let n = put_text(streams, buf, at, b" comparisons=");
+    let n = put_comparisons(streams, buf, n, comparisons, counts.kept);
+    let n = put_text(streams, buf, n, b" warnings=");
+    let n = put_warnings(streams, buf, n, warnings, counts.warned);
+    let n = put_text(streams, buf, n, b" program=");
+    put_words(streams, buf, n, words, counts.words)
 }
 
-fn put_url(buf: &mut [u8; ROOM], at: usize, given: usize, start: usize, len: usize) -> usize
+fn put_url(streams: Streams, buf: &mut [u8; ROOM], at: usize, given: usize, start: usize, len: usize) -> usize
     ensures { result ≤ max at most_waiting }
 {
     if given == 0 {
-        return put_text(buf, at, b" url=-");
+        return put_text(streams, buf, at, b" url=-");
     }
-    let n = put_text(buf, at, b" url=");
-    put_span(buf, n, start, len)
+    let n = put_text(streams, buf, at, b" url=");
+    put_span(streams, buf, n, start, len)
 }
 
 // The parts of a line before its marker.
 fn put_head(
+    streams: Streams,
     buf: &mut [u8; ROOM],
     at: usize,
     figures: &LineFigures,
@@ -205,17 +208,17 @@ fn put_head(
 ) -> usize
     ensures { result ≤ max at most_waiting }
 {
-    let n = put_text(buf, at, b"name=");
-    let n = put_span(buf, n, figures[LINE_NAME_START], figures[LINE_NAME_LENGTH]);
-    let n = put_spans(buf, n, b" extras=", extras, figures[LINE_EXTRAS]);
-    let n = put_spans(
+    let n = put_text(streams, buf, at, b"name=");
+    let n = put_span(streams, buf, n, figures[LINE_NAME_START], figures[LINE_NAME_LENGTH]);
+    let n = put_spans(streams, buf, n, b" extras=", extras, figures[LINE_EXTRAS]);
+    let n = put_spans(streams, 
         buf,
         n,
         b" specifiers=",
         specifiers,
         figures[LINE_SPECIFIERS],
     );
-    put_url(
+    put_url(streams, 
         buf,
         n,
         figures[LINE_HAS_URL],
@@ -226,6 +229,7 @@ fn put_head(
 
 // All parts of an accepted line. The figures are those of `hulmisker_line`.
 pub fn put_parts(
+    streams: Streams,
     buf: &mut [u8; ROOM],
     at: usize,
     figures: &LineFigures,
@@ -237,11 +241,11 @@ pub fn put_parts(
 ) -> usize
     ensures { result ≤ max at most_waiting }
 {
-    let n = put_head(buf, at, figures, extras, specifiers);
+    let n = put_head(streams, buf, at, figures, extras, specifiers);
     let counts = Counts {
         kept: figures[LINE_COMPARISONS],
         warned: figures[LINE_WARNINGS],
         words: figures[LINE_WORDS],
     };
-    put_marker(buf, n, comparisons, warnings, words, counts)
+    put_marker(streams, buf, n, comparisons, warnings, words, counts)
 }

@@ -1,0 +1,26 @@
+// A number in decimal digits.
+ghost use Rattle.std.specs.Prelude.{◌≡◌, ◌≢◌, ◌+◌, ◌<◌, ◌%◌, drop, slice_index};
+ghost use Rattle.output.specs.Digits.{continued};
+
+fn digit(n: u64) -> u8
+    ensures { result ≡ 48 + n % 10 }
+{
+    b'0' + (n % 10) as u8
+}
+
+// Puts the digits at the end of the array, and says where they start. A number of 64 bits has 20 at most.
+pub fn spell(number: u64, digits: &mut [u8; 20]) -> usize
+    ensures some { result < 20 }
+    ensures value { continued 0 (drop result digits.new) ≡ number }
+    ensures shortest { result < 19 → slice_index digits.new result ≢ 48 }
+{
+    let mut at: usize = 19;
+    digits[at] = digit(number);
+    let mut rest = number / 10;
+    while rest > 0 && at > 0 {
+        at -= 1;
+        digits[at] = digit(rest);
+        rest /= 10;
+    }
+    at
+}

@@ -1,0 +1,8 @@
+use Rattle.std.proofs.Common.{◌-◌, ◌≤◌}
+use Rattle.program_cases.proofs.count_all.Given as goal
+
+abbrev pub invariant-loop-cases : goal.invariant-loop-cases
+invariant-loop-cases l = l.differ ≤ l.cases
+
+abbrev pub decreases-loop-cases : goal.decreases-loop-cases
+decreases-loop-cases l = 1000000 - l.cases
