@@ -21,11 +21,8 @@ use Rattle.line_head.specs.Head as Head
 use Rattle.line_head.specs.Head.{head, extras_of, texts_of, text_count}
 use Rattle.line_head.specs.declared.part.Head.{Head}
 use Rattle.line_head.specs.declared.part.HeadRead.{HeadRead}
-use Rattle.line_head.specs.declared.part.HeadRead.TheVariants as HeadRead
 use Rattle.line_head.specs.declared.part.Tail.{Tail}
-use Rattle.line_head.specs.declared.part.Tail.TheVariants as Tail
 use Rattle.line_head.specs.declared.part.Wanted.{Wanted}
-use Rattle.line_head.specs.declared.part.Wanted.TheVariants as Wanted
 use Rattle.marker.specs.Answer.{listed_of, marker_answer}
 use Rattle.marker_typed.specs.Lists.{lists_of}
 use Rattle.marker_steps.specs.Marking.{Marking, nothing}
@@ -38,7 +35,6 @@ use Rattle.program_check.specs.Rules.{max_words}
 use Rattle.line_typed.specs.declared.door.Requirement.{Requirement}
 use Rattle.line_typed.specs.declared.door.SpanList.{SpanList}
 use Rattle.line.specs.declared.figures.Url.{Url}
-use Rattle.line.specs.declared.figures.Url.TheVariants as Url
 
 -- values that the code made, part by part
 pub whole_is : (n : Span) (e t : SpanList) (u : Url) (w : Wanted) (l : Lists) → u ≡ url_of w → ◌≡◌ {A = Requirement} (record { outcome = Good; name = n; extras = e; specifiers = t; url = u; marker = l }) (record { outcome = Good; name = n; extras = e; specifiers = t; url = url_of w; marker = l })
