@@ -1,5 +1,5 @@
 #!/bin/sh
-# tests/bindings.sh: builds the static library for this machine and runs the tests and examples of its bindings for C and Rust.
+# tests/bindings.sh: builds the static library and runs the tests and examples of its bindings for C and Rust.
 #
 # The last line is 'bindings: N passed, M failed'. The status is 0 if M is 0, 1 if not, and 2 if nothing could be tried: no cc, no library. Without
 # cargo it says that the Rust crate was not tried.
@@ -74,18 +74,6 @@ c_sanitized() {
     fi
 }
 
-# On a machine that is not x86-64, the kit's own archive too, by the kit's compiler, C library and emulator. There some arguments go by the stack.
-c_emulated() {
-    [ "$(uname -m)" != x86_64 ] || return 0
-    kit=$(CDPATH= cd -- "$(dirname -- "$("${RT:-rt}" doc)")/.." && pwd -P)/on/$(uname -m)/toolchain
-    lib=$kit/lib
-    try "preprocessing the C test" cc -std=c99 -E -P -Ibindings/c bindings/c/test.c -o "$out/test.i" &&
-        try "compiling the C test for x86-64" "$kit/bin/clang" --target=x86_64-unknown-linux-gnu -std=c99 -O2 -fPIE -w -x cpp-output -c "$out/test.i" -o "$out/x86.o" &&
-        try "linking the C test for x86-64" "$kit/bin/ld.lld" -pie -dynamic-linker /lib64/ld-linux-x86-64.so.2 "$lib/Scrt1.o" "$lib/crti.o" "$lib/crtbeginS.o" \
-            "$out/x86.o" target/staticlib/libgateway.a "$lib/libc.so.6" "$lib/libc_nonshared.a" "$lib/crtendS.o" "$lib/crtn.o" -o "$out/test-x86" &&
-        try "the C test on x86-64, emulated" "$kit/bin/qemu-x86_64" "$lib/ld-linux-x86-64.so.2" --library-path "$lib" "$out/test-x86"
-}
-
 in_rust() { # SUBCOMMAND WORD..
     subcommand=$1
     shift
@@ -123,14 +111,13 @@ command -v cc >/dev/null 2>&1 || stop "no command 'cc'"
 # rustup puts cargo where a plain PATH does not look.
 PATH=$PATH:${CARGO_HOME:-${HOME-}/.cargo}/bin
 mkdir -p "$out/nothing" || exit 2
-# Over what is proved this proves `gateway` alone once more: `rt staticlib` makes an archive of no proof but its own.
+# After `rt ci` this proves `gateway_c` alone once more: `rt ci` keeps no archive.
 tools/native-lib gateway >"$log" 2>&1 || {
     cat "$log" >&2
     stop "tools/native-lib gateway failed"
 }
 c_plain
 c_sanitized
-c_emulated
 if cargo --version >/dev/null 2>&1; then
     rust_crate
 else

@@ -29,7 +29,7 @@ run() {
     : >want-err
 }
 
-# Built before anything is compared: what building says on standard error is not the reader's. After `rt ci` that is a look at stamps.
+# Built before anything is compared: what building says on standard error is not the reader's. After `rt ci` that is a look at the files' times.
 "$here/hulmisker" read /dev/null >/dev/null 2>err || { cat err; exit 1; }
 : >want-err
 

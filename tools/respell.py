@@ -12,7 +12,6 @@ import re
 import sys
 
 WORD = r"[^\s(){}.,;@\"«»]+"
-DECLARED = re.compile(r"^\s*(?:abbrev |unfoldable |pub |ruleset )*(" + WORD + r")(?: :(?: |$)| = |(?: [^\s=:]+)* = )", re.M)
 SIGNED = re.compile(r"^\s*(?:abbrev |unfoldable |pub )*(" + WORD + r") :(?: |$)", re.M)
 RULESET = re.compile(r"^\s*(?:pub )?ruleset (" + WORD + r") =", re.M)
 functions = {}

@@ -136,9 +136,7 @@ const SOURCE: &str = concat!(
     include_str!("../../../crates/spans/src/store.rt"),
     include_str!("../../../crates/marker_store/src/room.rt"),
     include_str!("../../../crates/figures/src/lib.rt"),
-    include_str!("../../../crates/gateway/src/requirements.rt"),
-    include_str!("../../../crates/gateway/src/programs.rt"),
-    include_str!("../../../crates/gateway/src/texts.rt"),
+    include_str!("../../../crates/gateway_c/src/lib.rt"),
 );
 
 /// What stands in the proved source between two texts.

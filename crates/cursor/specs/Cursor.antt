@@ -4,9 +4,7 @@ use Rattle.refusal.specs.Refusal.{span}
 use Rattle.text.specs.Scan.{byte_at}
 use Rattle.cursor.specs.declared.cursor.Cursor.{Cursor}
 use Rattle.cursor.specs.declared.cursor.Peek.{Peek}
-use Rattle.cursor.specs.declared.cursor.Peek.TheVariants as Peek
 use Rattle.cursor.specs.declared.cursor.Step.{Step}
-use Rattle.cursor.specs.declared.cursor.Step.TheVariants as Step
 use Rattle.refusal.specs.declared.place.Span.{Span}
 
 abbrev pub cursor : ℕ → Cursor

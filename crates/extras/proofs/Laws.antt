@@ -9,7 +9,6 @@ use Rattle.refusal.specs.Refusal as Refusals
 use Rattle.cursor.specs.Check.{checked}
 use Rattle.refusal.specs.Refusal.{given}
 use Rattle.refusal.specs.declared.fault.Outcome.{Outcome}
-use Rattle.refusal.specs.declared.fault.Outcome.TheVariants as Outcome
 use Rattle.cursor.specs.declared.cursor.Cursor.{Cursor}
 use Rattle.refusal.specs.declared.fault.Refusal.{Refusal}
 use Rattle.refusal.specs.declared.place.Span.{Span}

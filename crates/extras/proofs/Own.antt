@@ -9,7 +9,6 @@ use Rattle.refusal.specs.Refusal.{given}
 use Rattle.refusal.specs.declared.place.Span.{Span}
 use Rattle.extras.specs.Entry.{told, told_count}
 use Rattle.extras.specs.declared.entry.Counted.{Counted}
-use Rattle.extras.specs.declared.entry.Counted.TheVariants as Counted
 use Rattle.extras.specs.declared.entry.Extras.{Extras}
 
 pub told_own : (v w : Extras) → told v ≡ told w → v ≡ w

@@ -9,7 +9,6 @@ use Rattle.spans.specs.Flat.{spans_onto, padded}
 use Rattle.spans.specs.Listing.{list_in}
 use Rattle.line_extras.specs.Extras.{extras_at}
 use Rattle.extras.specs.declared.entry.Counted.{Counted}
-use Rattle.extras.specs.declared.entry.Counted.TheVariants as Counted
 use Rattle.extras.specs.declared.entry.Extras.{Extras}
 
 -- "The line, extras and marker entries refuse first 1, then 2, then the first fault met from left to right"; "An extras entry ends after `]` and ignores what follows"

@@ -1,5 +1,5 @@
-// The C boundary: each entry as a function over numbers and byte slices. What is returned is 0, or document 01's number of the refusal; the
-// first two figures are the refusal's start and length, and 0, 0 where there is none.
+// The boundary: each entry as a function over numbers and byte slices. What is returned is 0, or document 01's number of the refusal; the
+// first two figures are the refusal's start and length, and 0, 0 where there is none. `gateway_c` gives these functions to C.
 #![tactic(auto)]
 
 mod programs;

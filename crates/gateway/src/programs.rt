@@ -7,8 +7,7 @@ ghost use Rattle.gateway.specs.Figures.{ran_number};
 use figures::{CountFigures, PlaceFigures, accepted, refused, tell, tell_count};
 use program_run::Ran;
 
-#[unsafe(no_mangle)]
-pub extern "C" fn hulmisker_check(program: &[u8], count: usize, figures: &mut PlaceFigures) -> u8
+pub fn hulmisker_check(program: &[u8], count: usize, figures: &mut PlaceFigures) -> u8
     ensures number { result ≡ number_of (checked_program program.now count) }
     ensures figures { figures.new ≡ place_of (checked_program program.now count) }
 {
@@ -16,8 +15,7 @@ pub extern "C" fn hulmisker_check(program: &[u8], count: usize, figures: &mut Pl
 }
 
 // The third figure is 1 for yes and 0 for no.
-#[unsafe(no_mangle)]
-pub extern "C" fn hulmisker_run(
+pub fn hulmisker_run(
     program: &[u8],
     count: usize,
     assignment: u64,

@@ -18,12 +18,7 @@ use marker_store::{Comparisons, Warnings, Words};
 use spans::SpanNumbers;
 
 // The third figure is the number of extras.
-#[unsafe(no_mangle)]
-pub extern "C" fn hulmisker_extras(
-    line: &[u8],
-    figures: &mut CountFigures,
-    extras: &mut SpanNumbers,
-) -> u8
+pub fn hulmisker_extras(line: &[u8], figures: &mut CountFigures, extras: &mut SpanNumbers) -> u8
     ensures number { result ≡ number_of (counts (entry line.now)) }
     ensures figures { figures.new ≡ count_figures (counts (entry line.now)) }
     ensures extras { extras.new ≡ written (entry line.now) extras.old }
@@ -35,8 +30,7 @@ pub extern "C" fn hulmisker_extras(
 }
 
 // The figures behind the first two are the numbers of comparisons, warnings and words.
-#[unsafe(no_mangle)]
-pub extern "C" fn hulmisker_marker(
+pub fn hulmisker_marker(
     line: &[u8],
     figures: &mut MarkerFigures,
     comparisons: &mut Comparisons,
@@ -91,8 +85,7 @@ fn link_of(url: Url) -> Link
 }
 
 // The figures behind the first two are the name's span, the URL, and the numbers of extras, specifiers, comparisons, warnings and words.
-#[unsafe(no_mangle)]
-pub extern "C" fn hulmisker_line(
+pub fn hulmisker_line(
     line: &[u8],
     figures: &mut LineFigures,
     extras: &mut SpanNumbers,

@@ -7,24 +7,21 @@ ghost use Rattle.gateway.specs.Texts.{version_answer, pattern_answer, specifier_
 use figures::{CountFigures, PlaceFigures, accepted, refused, tell, tell_count};
 use name::Normalised;
 
-#[unsafe(no_mangle)]
-pub extern "C" fn hulmisker_version(text: &[u8], figures: &mut PlaceFigures) -> u8
+pub fn hulmisker_version(text: &[u8], figures: &mut PlaceFigures) -> u8
     ensures number { result ≡ number_of (version_answer text.now) }
     ensures figures { figures.new ≡ place_of (version_answer text.now) }
 {
     tell(version_entry::version(text), figures)
 }
 
-#[unsafe(no_mangle)]
-pub extern "C" fn hulmisker_pattern(text: &[u8], figures: &mut PlaceFigures) -> u8
+pub fn hulmisker_pattern(text: &[u8], figures: &mut PlaceFigures) -> u8
     ensures number { result ≡ number_of (pattern_answer text.now) }
     ensures figures { figures.new ≡ place_of (pattern_answer text.now) }
 {
     tell(version_entry::pattern(text), figures)
 }
 
-#[unsafe(no_mangle)]
-pub extern "C" fn hulmisker_specifier(text: &[u8], figures: &mut PlaceFigures) -> u8
+pub fn hulmisker_specifier(text: &[u8], figures: &mut PlaceFigures) -> u8
     ensures number { result ≡ number_of (specifier_answer text.now) }
     ensures figures { figures.new ≡ place_of (specifier_answer text.now) }
 {
@@ -32,8 +29,7 @@ pub extern "C" fn hulmisker_specifier(text: &[u8], figures: &mut PlaceFigures) -
 }
 
 // The normal form goes to the output's front; its length is the third figure.
-#[unsafe(no_mangle)]
-pub extern "C" fn hulmisker_normalise(name: &[u8], out: &mut [u8], figures: &mut CountFigures) -> u8
+pub fn hulmisker_normalise(name: &[u8], out: &mut [u8], figures: &mut CountFigures) -> u8
     ensures number { result ≡ number_of (normalised name.now (length out.old)) }
     ensures figures { figures.new
         ≡ count_figures (normalised name.now (length out.old)) }

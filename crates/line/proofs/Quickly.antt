@@ -23,10 +23,8 @@ use Rattle.line_head.specs.Head as Head
 use Rattle.line_head.specs.Head.{head, extras_of, texts_of, text_count}
 use Rattle.line_head.specs.declared.part.Head.{Head}
 use Rattle.line_head.specs.declared.part.HeadRead.{HeadRead}
-use Rattle.line_head.specs.declared.part.HeadRead.TheVariants as HeadRead
 use Rattle.line_head.specs.declared.part.Tail.TheVariants.{End, Marker}
 use Rattle.line_head.specs.declared.part.Wanted.{Wanted}
-use Rattle.line_head.specs.declared.part.Wanted.TheVariants as Wanted
 use Rattle.marker.specs.Answer.{marker_answer, listed_of, counts_of}
 use Rattle.marker_store.specs.Numbers.{all_numbers}
 use Rattle.marker_store.specs.declared.marks.Counts as C
@@ -36,7 +34,6 @@ use Rattle.line.specs.Line.{Parts, unmarked, url_of, parts_of, marked, line_part
 use Rattle.line.specs.inner.Ready.{Ready, head_figures}
 use Rattle.line.specs.declared.figures.Figures.{Figures}
 use Rattle.line.specs.declared.figures.Url.{Url}
-use Rattle.line.specs.declared.figures.Url.TheVariants as Url
 use Rattle.line.specs.declared.quick.QuickLine.{QuickLine}
 
 -- values that the code made, part by part

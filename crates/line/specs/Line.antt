@@ -7,13 +7,10 @@ use Rattle.refusal.specs.declared.place.Span.{Span}
 use Rattle.line_head.specs.Head.{head, extras_of, texts_of}
 use Rattle.line_head.specs.declared.part.Head.{Head}
 use Rattle.line_head.specs.declared.part.Tail.{Tail}
-use Rattle.line_head.specs.declared.part.Tail.TheVariants as Tail
 use Rattle.line_head.specs.declared.part.Wanted.{Wanted}
-use Rattle.line_head.specs.declared.part.Wanted.TheVariants as Wanted
 use Rattle.marker.specs.Answer.{marker_answer}
 use Rattle.marker_steps.specs.Marking.{Marking, nothing}
 use Rattle.line.specs.declared.figures.Url.{Url}
-use Rattle.line.specs.declared.figures.Url.TheVariants as Url
 
 -- what a line is read as: the spans of its parts, and its marker
 pub record Parts : Type 0 where

@@ -15,14 +15,9 @@ use Rattle.spans.proofs.Kept.{kept, list_few}
 use Prim.Native.Char.{code}
 use lib.Dec.{eqb}
 use Rattle.refusal.specs.Answer.{Answer, good}
-use Rattle.refusal.specs.Refusal as Refusals
-use Rattle.refusal.specs.declared.fault.Outcome.{Outcome}
-use Rattle.refusal.specs.declared.fault.Outcome.TheVariants as Outcome
 use Rattle.refusal.specs.declared.fault.Fault.TheVariants.{ExtrasMany}
-use Rattle.refusal.specs.declared.fault.Refusal.{Refusal}
 use Rattle.spans.specs.Flat.{flat}
 use Rattle.cursor.specs.Limits.{max_list}
-use Rattle.spans.specs.Listing as Listing
 use Rattle.spans.specs.Listing.{Listing, read_onto, ends, spans_in, outcome, counted}
 use Rattle.line_extras.specs.Extra.{item_at}
 use Rattle.line_extras.specs.Extras.{extras_from, extras_at}

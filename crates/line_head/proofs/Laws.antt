@@ -24,27 +24,20 @@ use Rattle.spans.specs.Flat.{flat, spans_onto}
 use Rattle.spans.specs.Listing as Listing
 use Rattle.spans.specs.Listing.{spans_in, counted}
 use Rattle.spans.specs.declared.item.Listed.{Listed}
-use Rattle.spans.specs.declared.item.Listed.TheVariants as Listed
 use Rattle.line_extras.specs.Extras.{extras_at}
 use Rattle.line_name.specs.Name as Name
 use Rattle.line_name.specs.Name.{name_at}
 use Rattle.line_name.specs.declared.Named.{Named}
-use Rattle.line_name.specs.declared.Named.TheVariants as Named
 use Rattle.line_specifiers.specs.Specifiers.{specifiers_at}
 use Rattle.line_url.specs.Url as Url
 use Rattle.line_url.specs.Url.{url_at}
 use Rattle.line_url.specs.declared.Address.{Address}
-use Rattle.line_url.specs.declared.Address.TheVariants as Address
 use Rattle.line_head.specs.Head.{tail_at, by_url, by_list, wanted_at, texts_at, head_of, from_tail, from_wanted, from_extras, head, texts_from, extras_of, texts_of, told_tail, told_wanted}
 use Rattle.line_head.specs.declared.part.Head.{Head}
 use Rattle.line_head.specs.declared.part.Tail.{Tail}
-use Rattle.line_head.specs.declared.part.Tail.TheVariants as Tail
 use Rattle.line_head.specs.declared.part.TailRead.{TailRead}
-use Rattle.line_head.specs.declared.part.TailRead.TheVariants as TailRead
 use Rattle.line_head.specs.declared.part.Wanted.{Wanted}
-use Rattle.line_head.specs.declared.part.Wanted.TheVariants as Wanted
 use Rattle.line_head.specs.declared.part.WantedRead.{WantedRead}
-use Rattle.line_head.specs.declared.part.WantedRead.TheVariants as WantedRead
 
 -- nothing written leaves an array as it was
 unwritten : (old : List ℕ) → old ≡ spans_onto [] old

@@ -14,15 +14,10 @@ use Rattle.line_specifiers.specs.Specifiers.{specifiers_at}
 use Rattle.line_url.specs.Url.{url_at}
 use Rattle.line_head.specs.declared.part.Head.{Head}
 use Rattle.line_head.specs.declared.part.HeadRead.{HeadRead}
-use Rattle.line_head.specs.declared.part.HeadRead.TheVariants as HeadRead
 use Rattle.line_head.specs.declared.part.Tail.{Tail}
-use Rattle.line_head.specs.declared.part.Tail.TheVariants as Tail
 use Rattle.line_head.specs.declared.part.TailRead.{TailRead}
-use Rattle.line_head.specs.declared.part.TailRead.TheVariants as TailRead
 use Rattle.line_head.specs.declared.part.Wanted.{Wanted}
-use Rattle.line_head.specs.declared.part.Wanted.TheVariants as Wanted
 use Rattle.line_head.specs.declared.part.WantedRead.{WantedRead}
-use Rattle.line_head.specs.declared.part.WantedRead.TheVariants as WantedRead
 
 -- what was read behind a part, nothing where it was refused
 abbrev pub behind : {A : Type 0} → Answer A → (A → List Span) → List Span

@@ -8,7 +8,6 @@ use Rattle.marker.specs.Answer.{marker_answer, entry_answer}
 use Rattle.refusal.specs.Answer.{passes}
 use Rattle.refusal.specs.Refusal.{told, given}
 use Rattle.refusal.specs.declared.fault.Outcome.{Outcome}
-use Rattle.refusal.specs.declared.fault.Outcome.TheVariants as Outcome
 use Rattle.refusal.specs.declared.fault.Refusal.{Refusal}
 
 -- a line that passes the check is answered as its marker is, and another as the check refuses it

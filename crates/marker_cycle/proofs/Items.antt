@@ -12,7 +12,6 @@ use lib.ListN.{length, drop, length-append}
 use Rattle.marker_verdict.proofs.Further.{found_further}
 use Rattle.marker_verdict.specs.Found.{found_at}
 use Rattle.marker_verdict.specs.declared.found.Found.{Found}
-use Rattle.marker_verdict.specs.declared.found.Found.TheVariants as Found
 use Rattle.marker_verdict.specs.declared.verdict.Verdict.{Verdict}
 use Rattle.marker_cycle.proofs.Chain.{Sane, Joins, chain_sane}
 use Rattle.cursor.specs.Limits.{max_comparisons}

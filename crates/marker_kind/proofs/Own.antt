@@ -3,11 +3,8 @@ use mathlib.Core.Path.{◌≡◌, refl}
 use Rattle.marker_kind.specs.Code.{sort_code, key_code, operator_code, sort_of, key_of, operator_of}
 use Rattle.marker_kind.specs.declared.kind.ExtraKind.TheVariants.{Normal, Arbitrary}
 use Rattle.marker_kind.specs.declared.kind.Key.{Key}
-use Rattle.marker_kind.specs.declared.kind.Key.TheVariants as Key
 use Rattle.marker_kind.specs.declared.kind.Operator.{Operator}
-use Rattle.marker_kind.specs.declared.kind.Operator.TheVariants as Operator
 use Rattle.marker_kind.specs.declared.kind.Sort.{Sort}
-use Rattle.marker_kind.specs.declared.kind.Sort.TheVariants as Sort
 
 pub sort_own : (x : Sort) → sort_of (sort_code x) ≡ x
 unfolding sort_of sort_code

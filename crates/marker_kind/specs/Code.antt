@@ -2,11 +2,8 @@
 use Rattle.std.specs.Prelude.{ℕ, List, [], ◌∷◌, get_or}
 use Rattle.marker_kind.specs.declared.kind.ExtraKind.TheVariants.{Normal, Arbitrary}
 use Rattle.marker_kind.specs.declared.kind.Key.{Key}
-use Rattle.marker_kind.specs.declared.kind.Key.TheVariants as Key
 use Rattle.marker_kind.specs.declared.kind.Operator.{Operator}
-use Rattle.marker_kind.specs.declared.kind.Operator.TheVariants as Operator
 use Rattle.marker_kind.specs.declared.kind.Sort.{Sort}
-use Rattle.marker_kind.specs.declared.kind.Sort.TheVariants as Sort
 
 -- "its sort (version, version list, string, or extra)", an extra's literal being normal or arbitrary
 unfoldable pub sort_code : Sort → ℕ

@@ -10,7 +10,6 @@ use lib.ListN.{length}
 use Rattle.marker_verdict.proofs.Further.{found_further}
 use Rattle.marker_verdict.specs.Found.{found_at}
 use Rattle.marker_verdict.specs.declared.found.Found.{Found}
-use Rattle.marker_verdict.specs.declared.found.Found.TheVariants as Found
 use Rattle.marker_laws.specs.inner.Fuel.{and_by, or_by, group_by, parse_by}
 use Rattle.marker_cycle.proofs.Chain.{more_stop, more_on, chain_ind}
 use Rattle.marker_cycle.proofs.Emit.{nk, nw}

@@ -10,7 +10,6 @@ use lib.Dec.{ltb, eqb}
 use lib.ListN.{length, length-append}
 use Rattle.marker_verdict.specs.Found.{found_at}
 use Rattle.marker_verdict.specs.declared.found.Found.{Found}
-use Rattle.marker_verdict.specs.declared.found.Found.TheVariants as Found
 use Rattle.marker_verdict.specs.declared.verdict.Verdict.{Verdict}
 use Rattle.marker_verdict.specs.declared.verdict.Verdict.TheVariants.{Kept, KeptWarned, Ignored, IgnoredTwice}
 use Rattle.marker.specs.Answer.{answered, marker_answer, entry_answer}

@@ -11,8 +11,8 @@ use lib.Dec.{eqb}
 use lib.ListN.{length}
 use Rattle.marker_verdict.specs.declared.verdict.Verdict.{Verdict}
 use Rattle.marker_verdict.specs.declared.verdict.Verdict.TheVariants.{Kept, KeptWarned, Ignored, IgnoredTwice}
-use Rattle.marker_steps.specs.Grammar.{kept_in, warned_in, settled, Ahead, on, word_ahead, Parsed}
-use Rattle.marker_steps.specs.Marking.{is_kept, some, nothing}
+use Rattle.marker_steps.specs.Grammar.{kept_in, warned_in, settled, Ahead, word_ahead, Parsed}
+use Rattle.marker_steps.specs.Marking.{is_kept, some}
 use Rattle.marker_steps.specs.inner.Steps.{Raw, State, view_of, halted, raw_in, shows, Room, Inside, pushed, warning, taking, emit, stopped, read_to, state_of, onward, joined, Spare, Slack, closed_by, finished}
 use Rattle.marker_steps.specs.declared.part.Onward.TheVariants.{On, Stop}
 use Rattle.marker_steps.specs.declared.part.Part.{Part}
@@ -23,7 +23,7 @@ use Rattle.marker_store.specs.declared.marks.Counts.{Counts}
 use Rattle.marker_store.specs.declared.marks.Warning.{Warning}
 use Rattle.text.specs.Class.{is_space, is_word_byte}
 use Rattle.cursor.specs.Cursor.{cursor, span_to}
-use Rattle.refusal.specs.Refusal.{span, refusal}
+use Rattle.refusal.specs.Refusal.{refusal}
 use Rattle.text.specs.Scan.{skip, byte_at}
 use Rattle.text.specs.Word.{spells}
 use Rattle.cursor.specs.declared.cursor.Cursor.{Cursor}

@@ -3,7 +3,6 @@ use Prim.Native.Char.{code}
 use Rattle.std.specs.Prelude.{ℕ, zero, suc, ◌+◌, ◌-◌, true, false, cond, List, [], ◌∷◌, ◌++◌, ltb, eqb, length}
 use Rattle.marker_verdict.specs.Found.{found_at}
 use Rattle.marker_verdict.specs.declared.found.Found.{Found}
-use Rattle.marker_verdict.specs.declared.found.Found.TheVariants as Found
 use Rattle.marker_verdict.specs.declared.verdict.Verdict.{Verdict}
 use Rattle.marker_verdict.specs.declared.verdict.Verdict.TheVariants.{Kept, KeptWarned, Ignored, IgnoredTwice}
 use Rattle.marker_kind.specs.declared.kind.Comparison.{Comparison}

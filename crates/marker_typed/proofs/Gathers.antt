@@ -11,7 +11,7 @@ use Rattle.arrays.specs.Front.{pad}
 use Rattle.cursor.specs.declared.cursor.Cursor.{Cursor}
 use Rattle.marker_steps.proofs.Laws.{live}
 use Rattle.marker_steps.specs.Grammar.{Parsed, got, fault}
-use Rattle.marker_steps.specs.Marking.{Marking, marking, nothing, comparisons_as, warnings_as}
+use Rattle.marker_steps.specs.Marking.{Marking, marking, comparisons_as, warnings_as}
 use Rattle.marker_steps.specs.declared.part.Part.TheVariants.{Read, Refused}
 use Rattle.marker_steps.specs.declared.part.Progress.{Progress}
 use Rattle.marker_steps.specs.inner.Steps.{Raw, raw_of, State, view_of, shows, whole_of}

@@ -13,7 +13,6 @@ use Rattle.marker_typed.specs.inner.Gather.{marker_of}
 use Rattle.refusal.specs.Answer.{outcome_of, Answer, passes}
 use Rattle.refusal.specs.Refusal.{told, given}
 use Rattle.refusal.specs.declared.fault.Outcome.{Outcome}
-use Rattle.refusal.specs.declared.fault.Outcome.TheVariants as Outcome
 use Rattle.refusal.specs.declared.fault.Refusal.{Refusal}
 
 parsed_outcome : (p : Parsed) → told (marker_of p).outcome ≡ outcome_of (answered p)

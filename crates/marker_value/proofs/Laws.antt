@@ -21,14 +21,10 @@ use Rattle.text.specs.Word.{bytes, spells}
 use Rattle.marker_value.specs.Operator.{symbol_in, symbol_at, in_at, not_at, word_at}
 use Rattle.marker_value.specs.Value.{version_name_in, named_at, quoted_at}
 use Rattle.marker_value.specs.declared.operator.Between.{Between}
-use Rattle.marker_value.specs.declared.operator.Between.TheVariants as Between
 use Rattle.marker_value.specs.declared.operator.Symbol.{Symbol}
-use Rattle.marker_value.specs.declared.operator.Symbol.TheVariants as Symbol
 use Rattle.marker_value.specs.declared.value.Named.{Named}
-use Rattle.marker_value.specs.declared.value.Named.TheVariants as Named
 use Rattle.marker_value.specs.declared.value.Taken.TheVariants as Taken
 use Rattle.marker_value.specs.declared.value.Value.{Value}
-use Rattle.marker_value.specs.declared.value.Value.TheVariants as Value
 
 module _ (s : List ℕ) (at : ℕ) where
   -- a token that the code took, by what its table said

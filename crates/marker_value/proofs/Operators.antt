@@ -4,7 +4,6 @@ use mathlib.Core.List.{List}
 use Prim.Native.Nat.{ℕ, ◌+◌, ◌-◌, ◌≤◌}
 use native.Mathlib.Omega.{arith}
 use lib.Dec.{eqb}
-use Rattle.marker_kind.specs.declared.kind.Operator.{Operator}
 use Rattle.refusal.specs.Refusal.{span}
 use Rattle.text.proofs.Reach.{skip_from}
 use Rattle.text.specs.Class.{is_letter, is_space, is_operator_byte, is_operator_word_byte}
@@ -12,9 +11,7 @@ use Rattle.text.specs.Scan.{skip, byte_at}
 use Rattle.text.specs.Word.{bytes, spells}
 use Rattle.marker_value.specs.Operator.{symbol_in, took_symbol, symbol_at, in_at, not_at, word_at, operator_at}
 use Rattle.marker_value.specs.declared.operator.Between.{Between}
-use Rattle.marker_value.specs.declared.operator.Between.TheVariants as Between
 use Rattle.marker_value.specs.declared.operator.Symbol.{Symbol}
-use Rattle.marker_value.specs.declared.operator.Symbol.TheVariants as Symbol
 
 -- an operator, where there is one, ends at a place or behind it
 abbrev pub Behind : ℕ → Between → Type 0

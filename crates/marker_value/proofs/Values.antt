@@ -22,7 +22,6 @@ use Rattle.marker_value.specs.declared.value.Named.{Named}
 use Rattle.marker_value.specs.declared.value.Named.TheVariants.{Known, Unknown}
 use Rattle.marker_value.specs.declared.value.Taken.TheVariants as Taken
 use Rattle.marker_value.specs.declared.value.Value.{Value}
-use Rattle.marker_value.specs.declared.value.Value.TheVariants as Value
 
 -- a name that was found is not empty, and is no quoted value
 module _ (s : List ℕ) (at : Span) where

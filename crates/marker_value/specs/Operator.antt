@@ -2,7 +2,6 @@
 use Rattle.std.specs.Prelude.{ℕ, ◌+◌, ◌-◌, cond, List, ltb, eqb, length}
 use Prim.Native.Char.{code}
 use Rattle.cursor.specs.Cursor.{cursor}
-use Rattle.marker_kind.specs.declared.kind.Operator.{Operator}
 use Rattle.marker_kind.specs.declared.kind.Operator.TheVariants.{Equal, NotEqual, Less, LessEqual, Greater, GreaterEqual, Compatible, In, NotIn}
 use Rattle.refusal.specs.Refusal.{span, refusal}
 use Rattle.refusal.specs.declared.fault.Fault.TheVariants.{OperatorUnknown, NotUnspaced, ExpectedFoundEnd, ExpectedFoundOther}
@@ -12,7 +11,6 @@ use Rattle.text.specs.Class.{is_letter, is_space, is_operator_byte, is_operator_
 use Rattle.text.specs.Scan.{skip, byte_at}
 use Rattle.text.specs.Word.{bytes, spells}
 use Rattle.marker_value.specs.declared.operator.Between.{Between}
-use Rattle.marker_value.specs.declared.operator.Between.TheVariants as Between
 use Rattle.marker_value.specs.declared.operator.Symbol.{Symbol}
 use Rattle.marker_value.specs.declared.operator.Symbol.TheVariants.{Known, Unknown}
 

@@ -11,9 +11,7 @@ use Rattle.text.specs.Word.{bytes, spells}
 use Rattle.marker_value.specs.declared.value.Named.{Named}
 use Rattle.marker_value.specs.declared.value.Named.TheVariants.{Known, Unknown}
 use Rattle.marker_value.specs.declared.value.Taken.{Taken}
-use Rattle.marker_value.specs.declared.value.Taken.TheVariants as Taken
 use Rattle.marker_value.specs.declared.value.Value.{Value}
-use Rattle.marker_value.specs.declared.value.Value.TheVariants as Value
 
 -- "The twelve names are compared byte for byte." `platform_machine`, `platform_python_implementation`, `implementation_name`; "And `extra`."
 unfoldable pub last_name_in : List ℕ → Span → Named

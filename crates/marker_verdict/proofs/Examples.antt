@@ -27,7 +27,6 @@ use Rattle.version.specs.Rules.{is_version, goes_with, all_versions, is_version_
 use Rattle.marker_verdict.specs.Found.{found_at}
 use Rattle.marker_verdict.specs.Verdict.{kept}
 use Rattle.marker_verdict.specs.declared.found.Found.{Found}
-use Rattle.marker_verdict.specs.declared.found.Found.TheVariants as Found
 use Rattle.marker_verdict.specs.declared.verdict.Verdict.{Verdict}
 use Rattle.marker_verdict.specs.declared.verdict.Verdict.TheVariants.{Kept, KeptWarned, Ignored, IgnoredTwice}
 

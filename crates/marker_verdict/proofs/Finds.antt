@@ -8,9 +8,7 @@ use Rattle.marker_value.proofs.Values.{value_placed}
 use Rattle.marker_value.specs.Operator.{operator_at}
 use Rattle.marker_value.specs.Value.{ValueInside, value_at}
 use Rattle.marker_value.specs.declared.operator.Between.{Between}
-use Rattle.marker_value.specs.declared.operator.Between.TheVariants as Between
 use Rattle.marker_value.specs.declared.value.Taken.{Taken}
-use Rattle.marker_value.specs.declared.value.Taken.TheVariants as Taken
 use Rattle.marker_value.specs.declared.value.Value.{Value}
 use Rattle.refusal.specs.Refusal.{span}
 use Rattle.refusal.specs.declared.fault.Refusal.{Refusal}
@@ -21,7 +19,6 @@ use Rattle.marker_verdict.proofs.Laws.{deciding}
 use Rattle.marker_verdict.specs.Found.{with_right, with_operator, found_at}
 use Rattle.marker_verdict.specs.Verdict.{verdict}
 use Rattle.marker_verdict.specs.declared.found.Found.{Found}
-use Rattle.marker_verdict.specs.declared.found.Found.TheVariants as Found
 use Rattle.marker_verdict.specs.declared.verdict.Verdict.{Verdict}
 
 -- a value that was taken, if it is quoted, lies within the line

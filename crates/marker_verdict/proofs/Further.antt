@@ -11,9 +11,7 @@ use Rattle.marker_value.proofs.Values.{value_placed}
 use Rattle.marker_value.specs.Operator.{operator_at}
 use Rattle.marker_value.specs.Value.{value_at}
 use Rattle.marker_value.specs.declared.operator.Between.{Between}
-use Rattle.marker_value.specs.declared.operator.Between.TheVariants as Between
 use Rattle.marker_value.specs.declared.value.Taken.{Taken}
-use Rattle.marker_value.specs.declared.value.Taken.TheVariants as Taken
 use Rattle.marker_value.specs.declared.value.Value.{Value}
 use Rattle.refusal.specs.Refusal.{span}
 use Rattle.refusal.specs.declared.place.Span.{Span}

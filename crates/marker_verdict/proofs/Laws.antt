@@ -12,7 +12,6 @@ use Rattle.marker_kind.specs.declared.kind.Operator.{Operator}
 use Rattle.marker_kind.specs.declared.kind.Sort.TheVariants as Sort
 use Rattle.marker_value.specs.Value.{ValueInside}
 use Rattle.marker_value.specs.declared.value.Value.{Value}
-use Rattle.marker_value.specs.declared.value.Value.TheVariants as Value
 use Rattle.refusal.specs.declared.place.Span.{Span}
 use Rattle.text.proofs.Places.{places}
 use Rattle.version.specs.Rules.{is_version}

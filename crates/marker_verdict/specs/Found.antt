@@ -4,16 +4,13 @@ use Rattle.marker_kind.specs.declared.kind.Operator.{Operator}
 use Rattle.marker_value.specs.Operator.{operator_at}
 use Rattle.marker_value.specs.Value.{value_at}
 use Rattle.marker_value.specs.declared.operator.Between.{Between}
-use Rattle.marker_value.specs.declared.operator.Between.TheVariants as Between
 use Rattle.marker_value.specs.declared.value.Taken.{Taken}
-use Rattle.marker_value.specs.declared.value.Taken.TheVariants as Taken
 use Rattle.marker_value.specs.declared.value.Value.{Value}
 use Rattle.refusal.specs.Refusal.{span}
 use Rattle.text.specs.Class.{is_space}
 use Rattle.text.specs.Scan.{skip}
 use Rattle.marker_verdict.specs.Verdict.{verdict}
 use Rattle.marker_verdict.specs.declared.found.Found.{Found}
-use Rattle.marker_verdict.specs.declared.found.Found.TheVariants as Found
 
 -- a right value, and so a comparison, "on the span from the left value's first byte to the right value's last"
 abbrev pub with_right : List ℕ → ℕ → Value → Operator → Taken → Found

@@ -4,13 +4,10 @@ use Rattle.marker_kind.specs.Code.{operator_code}
 use Rattle.marker_kind.specs.declared.kind.Comparison.{Comparison}
 use Rattle.marker_kind.specs.declared.kind.ExtraKind.TheVariants.{Normal, Arbitrary}
 use Rattle.marker_kind.specs.declared.kind.Key.{Key}
-use Rattle.marker_kind.specs.declared.kind.Key.TheVariants as Key
 use Rattle.marker_kind.specs.declared.kind.Operator.{Operator}
 use Rattle.marker_kind.specs.declared.kind.Operator.TheVariants.{Equal, NotEqual, Less, LessEqual, Greater, GreaterEqual, Compatible, In, NotIn, Contains, NotContains}
 use Rattle.marker_kind.specs.declared.kind.Sort.{Sort}
-use Rattle.marker_kind.specs.declared.kind.Sort.TheVariants as Sort
 use Rattle.marker_value.specs.declared.value.Value.{Value}
-use Rattle.marker_value.specs.declared.value.Value.TheVariants as Value
 use Rattle.name.specs.Normal.{bad_at}
 use Rattle.refusal.specs.declared.place.Span.{Span}
 use Rattle.text.specs.Class.{within}

@@ -4,7 +4,6 @@ use Rattle.refusal.proofs.Numbers.{given_own}
 use Rattle.refusal.specs.Refusal.{given}
 use Rattle.program_run.specs.Run.{told}
 use Rattle.program_run.specs.declared.machine.Ran.{Ran}
-use Rattle.program_run.specs.declared.machine.Ran.TheVariants as Ran
 
 pub ran_own : (v w : Ran) → told v ≡ told w → v ≡ w
 ran_own (Ran.Answer a) (Ran.Answer b) e = let p : a ≡ b = cc in ap Ran.Answer p

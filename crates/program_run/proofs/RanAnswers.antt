@@ -9,7 +9,6 @@ use Rattle.refusal.specs.declared.fault.Refusal.{Refusal}
 use Rattle.program_check.specs.Check.{checked_program}
 use Rattle.program_check.specs.Tree.{Tree, postfix, saying, value, Within, tree_of}
 use Rattle.refusal.specs.declared.fault.Outcome.{Outcome}
-use Rattle.refusal.specs.declared.fault.Outcome.TheVariants as Outcome
 use Rattle.program_laws.proofs.Meaning.{tree_own, within_passes, passes_within, fold_below}
 use Rattle.program_run.proofs.Passing.{passes_runs}
 use Rattle.program_run.proofs.Values.{values}

@@ -5,7 +5,6 @@ use Rattle.refusal.specs.Refusal.{given}
 use Rattle.program_check.specs.Check.{checked_program}
 use Rattle.program_check.specs.Tree.{value, tree_of}
 use Rattle.program_run.specs.declared.machine.Ran.{Ran}
-use Rattle.program_run.specs.declared.machine.Ran.TheVariants as Ran
 
 -- "An assignment is 64 bits, bit k for comparison k"
 unfoldable pub bit : ℕ → ℕ → Bool

@@ -1,6 +1,6 @@
 -- A bounded list of spans, read item by item from left to right.
 use Rattle.std.specs.Prelude.{ℕ, zero, suc, Bool, false, List, [], ◌∷◌, length}
-use Rattle.refusal.specs.Answer.{Answer, good, refused, on_good}
+use Rattle.refusal.specs.Answer.{Answer, good, on_good}
 use Rattle.refusal.specs.Refusal.{given}
 use Rattle.refusal.specs.declared.fault.Fault.{Fault}
 use Rattle.refusal.specs.declared.fault.Refusal.{Refusal}
@@ -9,7 +9,6 @@ use Rattle.spans.specs.Flat.{spans_onto}
 use Rattle.spans.specs.declared.item.Item.{Item}
 use Rattle.spans.specs.declared.item.Item.TheVariants.{One, End, Refused}
 use Rattle.spans.specs.declared.item.Listed.{Listed}
-use Rattle.spans.specs.declared.item.Listed.TheVariants as Listed
 
 -- the spans in order, and then where reading goes on, or why the line is refused
 pub data Listing : Type 0 where

@@ -16,7 +16,7 @@ use Rattle.version_language.proofs.Bytes.{Apart, lettered, Ascii, listed, among,
 use Rattle.version_language.proofs.Parts.{labelled, pre_word, post_word, dev_word, local, after_dev, after_post, after_pre, after_release, counted, there_or_not, without, with_it, Cut, cut_seam}
 use Rattle.version_language.proofs.Whole.{number_whole, number_first, number_none}
 use Rattle.version_language.proofs.Words.{goes_on, clear, no_words, post_no_pre, Begins, pre_begins, post_begins, dev_begins}
-use Rattle.version_language.specs.Appendix.{Regex, matches, all, one, ◌then◌, spaces, separator, number, post, dev}
+use Rattle.version_language.specs.Appendix.{Regex, matches, all, ◌then◌, spaces, post, dev}
 use Rattle.version_parts.specs.Release.{is_dot}
 use Rattle.version_number.specs.Number.{number_len}
 use Rattle.version_parts.specs.Part.{sep_len, word_len, pre_words, post_words, dev_words}

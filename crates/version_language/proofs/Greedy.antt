@@ -20,7 +20,7 @@ use Rattle.version_language.proofs.Front.{letter, letter_no_number, labelled_let
 use Rattle.version_language.proofs.Parts.{pre_word, post_word, dev_word, after_dev, after_post, after_pre, after_release, counted, there_or_not, Cut, cut_none, cut_seam, cut_cut}
 use Rattle.version_language.proofs.Whole.{number_whole, number_first, number_there, number_none}
 use Rattle.version_language.proofs.Words.{goes_on, pre_whole, post_whole, dev_whole, Begins, pre_begins, post_begins, dev_begins}
-use Rattle.version_language.specs.Appendix.{Regex, matches, all, one, opt, ◌then◌, separator, number, pre, post, dev}
+use Rattle.version_language.specs.Appendix.{Regex, matches, opt, ◌then◌, number, pre, post, dev}
 use Rattle.version_number.specs.Number.{number_len}
 use Rattle.version_parts.specs.Part.{sep_len, word_len, count_len, part_len, pre_words, post_words, dev_words, pre_len, post_len, dev_len}
 

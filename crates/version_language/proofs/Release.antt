@@ -17,7 +17,7 @@ use Rattle.text.specs.Scan.{run, skip, byte_at}
 use Rattle.version_language.proofs.Bytes.{Ascii, Apart, digit_ascii, space_ascii, inside, apart}
 use Rattle.version_language.proofs.Parts.{from_first, from_epoch, from_start, from_v, begun, released, there_or_not, Cut, cut_none, cut_seam, follow}
 use Rattle.version_language.proofs.Whole.{run_whole, number_whole, number_first, number_there, more_first, joined_whole}
-use Rattle.version_language.specs.Appendix.{Regex, matches, all, one, word, many, ◌then◌, sign, number}
+use Rattle.version_language.specs.Appendix.{Regex, matches, all, word, many, ◌then◌, sign, number}
 use Rattle.version_parts.specs.Joined.{more}
 use Rattle.version_parts.specs.Release.{v_len, epoch_len, is_dot}
 use Rattle.version.specs.Layout.{layout, has_release}

@@ -3,7 +3,7 @@ use mathlib.Core.Path.{◌≡◌, refl, sym}
 use mathlib.Core.Bool.{Bool, true, false, cond, not, ◌&&◌, ◌||◌, or-true, false≢true}
 use mathlib.Core.List.{List, [], ◌∷◌, ◌++◌, map}
 use mathlib.Core.Logic.{inl, inr}
-use Prim.Native.Nat.{ℕ, zero, suc, ◌+◌, ◌-◌, ◌*◌, ◌<◌, ◌≤◌}
+use Prim.Native.Nat.{ℕ, zero, suc, ◌+◌, ◌<◌, ◌≤◌}
 use Prim.Native.Char.{code}
 use native.Mathlib.Nat.{add_assoc, add-zero}
 use native.Mathlib.Omega.{arith}
@@ -19,7 +19,7 @@ use Rattle.text.specs.Scan.{run, skip, byte_at}
 use Rattle.text.specs.Word.{bytes, begins, begins_by}
 use Rattle.version_language.proofs.Matching.{joined, joined_front, perhaps, one_front, opt_one_front, run_all, value_run, all_run, all_of, every}
 use Rattle.version_language.proofs.Parts.{labelled, pre_word, post_word, dev_word, local, after_dev, after_release, starred, from_first, from_epoch, from_start, from_v, begun, released}
-use Rattle.version_language.specs.Appendix.{Regex, none, some, matches, all, one, word, opt, many, ◌then◌, ◌or◌, sign, spaces, separator, number, segment, bounded, pre, post, dev, version_regex, pattern_regex}
+use Rattle.version_language.specs.Appendix.{Regex, none, some, matches, all, one, word, opt, many, ◌then◌, sign, spaces, separator, number, segment, bounded, pre, post, dev, version_regex, pattern_regex}
 use Rattle.version_parts.specs.Joined.{more_len, more}
 use Rattle.version_parts.specs.Local.{segment_len, local_len}
 use Rattle.version_number.specs.Place.{past}

@@ -1,9 +1,8 @@
 use mathlib.Core.Path.{sym, ap, ◌∙◌}
-use Rattle.marker.proofs.Doors.{good_answer, bad_answer}
+use Rattle.marker.proofs.Doors.{bad_answer}
 use Rattle.marker.proofs.Quickly.{refused_quick_outcome, refused_quick_counts, refused_comps, refused_warns, refused_words}
 use Rattle.refusal.specs.Refusal.{told}
 use Rattle.marker.specs.declared.quick.Quick.{Quick}
-use borrow.Author.Rules.{rules}
 use Rattle.marker.proofs.quick.read_quick.Goals as goal
 
 pub returns-in-Refused-clause-outcome : goal.returns-in-Refused-clause-outcome

@@ -1,4 +1,3 @@
-use native.Mathlib.Omega.{arith}
 use Rattle.marker_steps.proofs.Laws.{slack_of}
 use Rattle.marker_cycle.proofs.Whole.{line_spare, line_state, whole_state}
 use Rattle.marker_cycle.proofs.cycle.read_from.Goals as goal

@@ -1,6 +1,5 @@
 use mathlib.Core.Path.{refl, sym}
 use lib.ListN.{get_or-eq_default}
-use borrow.Author.Rules.{rules}
 use Rattle.marker_kind.specs.declared.kind.Key.TheVariants as Key
 use Rattle.marker_kind.specs.Code.{keys, key_of}
 use Rattle.marker_kind.proofs.code.key_of.Goals as goal

@@ -1,6 +1,5 @@
 use mathlib.Core.Path.{refl, sym}
 use lib.ListN.{get_or-eq_default}
-use borrow.Author.Rules.{rules}
 use Rattle.marker_kind.specs.declared.kind.Operator.TheVariants as Operator
 use Rattle.marker_kind.specs.Code.{operators, operator_of}
 use Rattle.marker_kind.proofs.code.operator_of.Goals as goal

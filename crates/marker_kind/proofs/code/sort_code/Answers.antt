@@ -1,5 +1,4 @@
 use mathlib.Core.Path.{sym, ap}
-use borrow.Author.Rules.{rules}
 use Rattle.marker_kind.specs.Code.{sort_code}
 use Rattle.marker_kind.proofs.code.sort_code.Goals as goal
 

@@ -1,6 +1,5 @@
 use mathlib.Core.Path.{refl, sym}
 use lib.ListN.{get_or-eq_default}
-use borrow.Author.Rules.{rules}
 use Rattle.marker_kind.specs.declared.kind.Sort.TheVariants as Sort
 use Rattle.marker_kind.specs.Code.{sorts, sort_of}
 use Rattle.marker_kind.proofs.code.sort_of.Goals as goal

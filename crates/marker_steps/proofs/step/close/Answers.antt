@@ -1,8 +1,6 @@
 use mathlib.Core.Path.{sym, ap, ◌∙◌}
 use Rattle.marker_steps.proofs.Laws.{live, shows_refused, shows_read, closed_refused, closed_on, closed_other, closed_end}
 use Rattle.marker_steps.specs.inner.Steps.{halted, read_to}
-use Rattle.text.proofs.Places.{places}
-use borrow.Author.Rules.{rules}
 use Rattle.marker_steps.proofs.step.close.Goals as goal
 
 pub returns-then-has : goal.returns-then-has

@@ -1,7 +1,6 @@
 use mathlib.Core.Path.{sym, ap, ◌∙◌}
 use Rattle.marker_steps.proofs.Laws.{live, shows_refused, shows_read, read_as, finish_refused, finish_on, finish_some, finish_none}
 use Rattle.marker_steps.specs.inner.Steps.{Raw, halted, Slack, pushed}
-use borrow.Author.Rules.{rules}
 use Rattle.marker_steps.proofs.step.finish.Goals as goal
 
 pub returns-then-at-line : goal.returns-then-at-line

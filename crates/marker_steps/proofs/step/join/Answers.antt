@@ -1,7 +1,6 @@
 use mathlib.Core.Path.{sym, ap, ◌∙◌}
 use Rattle.marker_steps.proofs.Laws.{live, shows_read, read_as, join_refused, join_both, join_left, join_right}
 use Rattle.marker_steps.specs.inner.Steps.{Raw, Slack, pushed, read_to}
-use borrow.Author.Rules.{rules}
 use Rattle.marker_steps.proofs.step.join.Goals as goal
 
 pub push-n-requires : goal.push-n-requires

@@ -1,5 +1,4 @@
 use Rattle.marker_steps.specs.inner.Steps.{keeping}
-use borrow.Author.Rules.{rules}
 use Rattle.marker_steps.proofs.step.keep.Goals as goal
 
 pub returns : goal.returns

@@ -1,7 +1,6 @@
 use mathlib.Core.Path.{◌∙◌}
 use native.Mathlib.Omega.{arith}
 use Rattle.marker_steps.proofs.Laws.{shows_refused, shows_read, kept_few, warned_few, settled_warnings, settled_comparisons, settled_read}
-use borrow.Author.Rules.{rules}
 use Rattle.marker_steps.proofs.step.settle_one.Goals as goal
 
 pub overflow_add-counts : goal.overflow_add-counts

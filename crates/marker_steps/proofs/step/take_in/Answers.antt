@@ -1,7 +1,6 @@
 use Rattle.marker_steps.proofs.Laws.{shows_refused}
 use Rattle.marker_steps.specs.Grammar.{settle}
 use Rattle.marker_steps.specs.inner.Steps.{state_of}
-use borrow.Author.Rules.{rules}
 use Rattle.marker_steps.proofs.step.take_in.Goals as goal
 
 pub returns-in-Comparison : goal.returns-in-Comparison

@@ -1,9 +1,6 @@
 use mathlib.Core.List.{[]}
-use mathlib.Core.Path.{ap, ◌∙◌}
 use native.Mathlib.Omega.{arith}
 use Rattle.marker_steps.proofs.Laws.{warned_counts}
-use Rattle.marker_steps.specs.inner.Steps.{keeping, warning}
-use borrow.Author.Rules.{rules}
 use Rattle.marker_steps.proofs.step.write_down.Goals as goal
 
 pub keep-requires-in-KeptWarned : goal.keep-requires-in-KeptWarned

@@ -1,6 +1,5 @@
 use Rattle.marker_typed.proofs.Gathers.{assembled_refused, assembled_read}
 use Rattle.marker_steps.specs.inner.Steps.{Fits}
-use borrow.Author.Rules.{rules}
 use Rattle.marker_typed.proofs.door.assemble.Goals as goal
 
 pub gather-lists-requires : goal.gather-lists-requires

@@ -1,6 +1,4 @@
-use Rattle.marker.proofs.Doors.{good_answer}
 use Rattle.marker_typed.proofs.Typed.{refused_outcome, refused_lists}
-use borrow.Author.Rules.{rules}
 use Rattle.marker_typed.proofs.door.read_marker.Goals as goal
 
 pub returns-in-Refused-clause-outcome : goal.returns-in-Refused-clause-outcome

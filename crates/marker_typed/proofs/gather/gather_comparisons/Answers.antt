@@ -1,13 +1,7 @@
-use mathlib.Core.Path.{◌≡◌}
-use Prim.Native.Nat.{◌≤◌, ◌-◌}
 use native.Mathlib.Omega.{arith}
-use borrow.Author.Rules.{rules}
 use Rattle.marker_typed.proofs.Gathers.{loading, load_start, end_loaded}
 use Rattle.marker_typed.specs.Lists.{no_comparison}
-use Rattle.arrays.specs.Front.{pad}
-use Rattle.cursor.specs.Limits.{max_comparisons}
 use Rattle.marker_store.specs.Numbers.{comparison_in}
-use Rattle.marker_typed.specs.inner.Gather.{up_to}
 use Rattle.marker_typed.proofs.gather.gather_comparisons.Goals as goal
 
 pub loop-i-init : goal.loop-i-init

@@ -1,8 +1,5 @@
 use mathlib.Core.Path.{◌≡◌}
 use Prim.Native.Nat.{◌≤◌, ◌-◌}
-use native.Mathlib.Omega.{arith}
-use borrow.Author.Rules.{rules}
-use Rattle.marker_typed.proofs.Gathers.{loading, load_start, end_loaded}
 use Rattle.marker_typed.specs.Lists.{no_comparison}
 use Rattle.arrays.specs.Front.{pad}
 use Rattle.cursor.specs.Limits.{max_comparisons}

@@ -1,4 +1,4 @@
-use Rattle.version_parts.proofs.Parts.{part, worded}
+use Rattle.version_parts.proofs.Parts.{worded}
 use Rattle.version_parts.proofs.part.post_word_end.Goals as goal
 
 pub returns-then-lacks_letter : goal.returns-then-lacks_letter
