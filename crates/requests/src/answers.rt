@@ -9,7 +9,7 @@ use figures::{
     MARKER_WARNINGS, MARKER_WORDS, PLACE_FIGURES, START,
 };
 use marker_store::{COMPARISONS_ROOM, Counts, WARNINGS_ROOM};
-use output::{Streams, ROOM, put, put_hex, put_number, put_text};
+use output::{ROOM, Streams, put, put_hex, put_number, put_text};
 use program_check::MAX_WORDS;
 use spans::LIST_NUMBERS;
 use wording::{put_marker, put_parts, put_refused, put_spans};
@@ -24,7 +24,14 @@ pub fn put_bad(streams: Streams, buf: &mut [u8; ROOM], at: usize) -> usize
 }
 
 // A number of 0 is no refusal.
-fn put_verdict(streams: Streams, buf: &mut [u8; ROOM], at: usize, number: u8, start: usize, len: usize) -> usize
+fn put_verdict(
+    streams: Streams,
+    buf: &mut [u8; ROOM],
+    at: usize,
+    number: u8,
+    start: usize,
+    len: usize,
+) -> usize
     ensures { result ≤ max at most_waiting }
 {
     if number == 0 {
@@ -56,7 +63,8 @@ fn put_line(streams: Streams, text: &[u8], buf: &mut [u8; ROOM], at: usize) -> u
         return put_refused(streams, buf, at, number, figures[START], figures[LENGTH]);
     }
     let n = put_text(streams, buf, at, b"ok ");
-    put_parts(streams, 
+    put_parts(
+        streams,
         buf,
         n,
         &figures,
@@ -155,7 +163,13 @@ fn normalise_front(
     normalise_into(name, out, room, figures)
 }
 
-fn put_bytes(streams: Streams, buf: &mut [u8; ROOM], at: usize, out: &[u8; OUT], room: usize) -> usize
+fn put_bytes(
+    streams: Streams,
+    buf: &mut [u8; ROOM],
+    at: usize,
+    out: &[u8; OUT],
+    room: usize,
+) -> usize
     ensures { result ≤ max at most_waiting }
 {
     let mut n = at;
@@ -211,7 +225,13 @@ fn put_length(streams: Streams, buf: &mut [u8; ROOM], at: usize, number: u8, len
     put_number(streams, buf, n, len as u64)
 }
 
-fn put_checked(streams: Streams, program: &[u8], count: u64, buf: &mut [u8; ROOM], at: usize) -> usize
+fn put_checked(
+    streams: Streams,
+    program: &[u8],
+    count: u64,
+    buf: &mut [u8; ROOM],
+    at: usize,
+) -> usize
     ensures { result ≤ max at most_waiting }
 {
     let mut figures = [0usize; PLACE_FIGURES];
@@ -229,7 +249,14 @@ fn put_yes_no(streams: Streams, buf: &mut [u8; ROOM], at: usize, answer: usize) 
     }
 }
 
-fn put_run(streams: Streams, program: &[u8], count: u64, assignment: u64, buf: &mut [u8; ROOM], at: usize) -> usize
+fn put_run(
+    streams: Streams,
+    program: &[u8],
+    count: u64,
+    assignment: u64,
+    buf: &mut [u8; ROOM],
+    at: usize,
+) -> usize
     ensures { result ≤ max at most_waiting }
 {
     let mut figures = [0usize; COUNT_FIGURES];

@@ -9,7 +9,7 @@ use figures::{
     LINE_SPECIFIERS, LINE_URL_LENGTH, LINE_URL_START, LINE_WARNINGS, LINE_WORDS, LineFigures,
 };
 use marker_store::{Comparisons, Counts, Warnings, Words, load_comparison, load_warning};
-use output::{Streams, ROOM, put, put_number, put_text};
+use output::{ROOM, Streams, put, put_number, put_text};
 use program_check::MAX_WORDS;
 use refusal::Span;
 use spans::{SPAN_NUMBERS, SpanNumbers};
@@ -21,7 +21,14 @@ fn put_count(streams: Streams, buf: &mut [u8; ROOM], at: usize, n: usize) -> usi
 }
 
 // A start and a length, with a comma between, or a blank.
-fn put_pair(streams: Streams, buf: &mut [u8; ROOM], at: usize, start: usize, between: u8, len: usize) -> usize
+fn put_pair(
+    streams: Streams,
+    buf: &mut [u8; ROOM],
+    at: usize,
+    start: usize,
+    between: u8,
+    len: usize,
+) -> usize
     ensures { result ≤ max at most_waiting }
 {
     let n = put_count(streams, buf, at, start);
@@ -35,7 +42,14 @@ fn put_span(streams: Streams, buf: &mut [u8; ROOM], at: usize, start: usize, len
     put_pair(streams, buf, at, start, b',', len)
 }
 
-pub fn put_refused(streams: Streams, buf: &mut [u8; ROOM], at: usize, number: u8, start: usize, len: usize) -> usize
+pub fn put_refused(
+    streams: Streams,
+    buf: &mut [u8; ROOM],
+    at: usize,
+    number: u8,
+    start: usize,
+    len: usize,
+) -> usize
     ensures { result ≤ max at most_waiting }
 {
     let n = put_text(streams, buf, at, b"refused ");
@@ -48,10 +62,20 @@ pub fn put_refused(streams: Streams, buf: &mut [u8; ROOM], at: usize, number: u8
 fn put_joint(streams: Streams, buf: &mut [u8; ROOM], at: usize, item: usize, joint: u8) -> usize
     ensures { result ≤ max at most_waiting }
 {
-    if 0 < item { put(streams, buf, at, joint) } else { at }
+    if 0 < item {
+        put(streams, buf, at, joint)
+    } else {
+        at
+    }
 }
 
-fn put_item(streams: Streams, buf: &mut [u8; ROOM], at: usize, spans: &SpanNumbers, i: usize) -> usize
+fn put_item(
+    streams: Streams,
+    buf: &mut [u8; ROOM],
+    at: usize,
+    spans: &SpanNumbers,
+    i: usize,
+) -> usize
     ensures { result ≤ max at most_waiting }
 {
     if Cursor::MAX_LIST <= i {
@@ -61,7 +85,13 @@ fn put_item(streams: Streams, buf: &mut [u8; ROOM], at: usize, spans: &SpanNumbe
     put_span(streams, buf, at, spans[first], spans[first + 1])
 }
 
-fn put_items(streams: Streams, buf: &mut [u8; ROOM], at: usize, spans: &SpanNumbers, count: usize) -> usize
+fn put_items(
+    streams: Streams,
+    buf: &mut [u8; ROOM],
+    at: usize,
+    spans: &SpanNumbers,
+    count: usize,
+) -> usize
     ensures { result ≤ max at most_waiting }
 {
     let mut n = at;
@@ -89,7 +119,13 @@ pub fn put_spans(
     put_items(streams, buf, n, spans, count)
 }
 
-fn put_comparison(streams: Streams, buf: &mut [u8; ROOM], at: usize, list: &Comparisons, i: usize) -> usize
+fn put_comparison(
+    streams: Streams,
+    buf: &mut [u8; ROOM],
+    at: usize,
+    list: &Comparisons,
+    i: usize,
+) -> usize
     ensures { result ≤ max at most_waiting }
 {
     if Cursor::MAX_COMPARISONS <= i {
@@ -109,7 +145,13 @@ fn put_comparison(streams: Streams, buf: &mut [u8; ROOM], at: usize, list: &Comp
     put_span(streams, buf, n, literal.start.0, literal.len)
 }
 
-fn put_comparisons(streams: Streams, buf: &mut [u8; ROOM], at: usize, list: &Comparisons, count: usize) -> usize
+fn put_comparisons(
+    streams: Streams,
+    buf: &mut [u8; ROOM],
+    at: usize,
+    list: &Comparisons,
+    count: usize,
+) -> usize
     ensures { result ≤ max at most_waiting }
 {
     let mut n = at;
@@ -122,7 +164,13 @@ fn put_comparisons(streams: Streams, buf: &mut [u8; ROOM], at: usize, list: &Com
     n
 }
 
-fn put_warning(streams: Streams, buf: &mut [u8; ROOM], at: usize, list: &Warnings, i: usize) -> usize
+fn put_warning(
+    streams: Streams,
+    buf: &mut [u8; ROOM],
+    at: usize,
+    list: &Warnings,
+    i: usize,
+) -> usize
     ensures { result ≤ max at most_waiting }
 {
     if Cursor::MAX_COMPARISONS <= i {
@@ -135,7 +183,13 @@ fn put_warning(streams: Streams, buf: &mut [u8; ROOM], at: usize, list: &Warning
     put_span(streams, buf, n, span.start.0, span.len)
 }
 
-fn put_warnings(streams: Streams, buf: &mut [u8; ROOM], at: usize, list: &Warnings, count: usize) -> usize
+fn put_warnings(
+    streams: Streams,
+    buf: &mut [u8; ROOM],
+    at: usize,
+    list: &Warnings,
+    count: usize,
+) -> usize
     ensures { result ≤ max at most_waiting }
 {
     let mut n = at;
@@ -154,7 +208,13 @@ fn put_word(streams: Streams, buf: &mut [u8; ROOM], at: usize, word: u8) -> usiz
     put_number(streams, buf, at, word as u64)
 }
 
-fn put_words(streams: Streams, buf: &mut [u8; ROOM], at: usize, words: &Words, count: usize) -> usize
+fn put_words(
+    streams: Streams,
+    buf: &mut [u8; ROOM],
+    at: usize,
+    words: &Words,
+    count: usize,
+) -> usize
     ensures { result ≤ max at most_waiting }
 {
     let mut n = at;
@@ -187,7 +247,14 @@ pub fn put_marker(
     put_words(streams, buf, n, words, counts.words)
 }
 
-fn put_url(streams: Streams, buf: &mut [u8; ROOM], at: usize, given: usize, start: usize, len: usize) -> usize
+fn put_url(
+    streams: Streams,
+    buf: &mut [u8; ROOM],
+    at: usize,
+    given: usize,
+    start: usize,
+    len: usize,
+) -> usize
     ensures { result ≤ max at most_waiting }
 {
     if given == 0 {
@@ -209,16 +276,24 @@ fn put_head(
     ensures { result ≤ max at most_waiting }
 {
     let n = put_text(streams, buf, at, b"name=");
-    let n = put_span(streams, buf, n, figures[LINE_NAME_START], figures[LINE_NAME_LENGTH]);
+    let n = put_span(
+        streams,
+        buf,
+        n,
+        figures[LINE_NAME_START],
+        figures[LINE_NAME_LENGTH],
+    );
     let n = put_spans(streams, buf, n, b" extras=", extras, figures[LINE_EXTRAS]);
-    let n = put_spans(streams, 
+    let n = put_spans(
+        streams,
         buf,
         n,
         b" specifiers=",
         specifiers,
         figures[LINE_SPECIFIERS],
     );
-    put_url(streams, 
+    put_url(
+        streams,
         buf,
         n,
         figures[LINE_HAS_URL],

@@ -3,7 +3,7 @@ ghost use Rattle.std.specs.Prelude.{◌≤◌, max};
 ghost use Rattle.output.specs.Room.{most_waiting};
 
 use marker_kind::{ExtraKind, Key, Operator, Sort};
-use output::{Streams, ROOM, put, put_text};
+use output::{ROOM, Streams, put, put_text};
 
 pub fn put_sort(streams: Streams, buf: &mut [u8; ROOM], at: usize, sort: Sort) -> usize
     ensures { result ≤ max at most_waiting }
@@ -32,7 +32,12 @@ pub fn put_key(streams: Streams, buf: &mut [u8; ROOM], at: usize, key: Key) -> u
         Key::PlatformSystem => put_text(streams, buf, at, b"platform_system"),
         Key::PlatformVersion => put_text(streams, buf, at, b"platform_version"),
         Key::PlatformMachine => put_text(streams, buf, at, b"platform_machine"),
-        Key::PlatformPythonImplementation => put_text(streams, buf, at, b"platform_python_implementation"),
+        Key::PlatformPythonImplementation => put_text(
+            streams,
+            buf,
+            at,
+            b"platform_python_implementation",
+        ),
         Key::ImplementationName => put_text(streams, buf, at, b"implementation_name"),
         Key::Extra => put_text(streams, buf, at, b"extra"),
     }
@@ -47,7 +52,13 @@ fn put_not(streams: Streams, buf: &mut [u8; ROOM], at: usize, between: u8, word:
     put_text(streams, buf, n, word)
 }
 
-pub fn put_operator(streams: Streams, buf: &mut [u8; ROOM], at: usize, operator: Operator, between: u8) -> usize
+pub fn put_operator(
+    streams: Streams,
+    buf: &mut [u8; ROOM],
+    at: usize,
+    operator: Operator,
+    between: u8,
+) -> usize
     ensures { result ≤ max at most_waiting }
 {
     match operator {
