@@ -13,7 +13,7 @@ use Rattle.marker_verdict.specs.declared.verdict.Verdict.{Verdict}
 use Rattle.marker_verdict.specs.declared.verdict.Verdict.TheVariants.{Kept, KeptWarned, Ignored, IgnoredTwice}
 use Rattle.marker_steps.specs.Grammar.{kept_in, warned_in, settled, Ahead, word_ahead, Parsed}
 use Rattle.marker_steps.specs.Marking.{is_kept, some}
-use Rattle.marker_steps.specs.inner.Steps.{Raw, State, view_of, halted, raw_in, shows, Room, Inside, pushed, warning, taking, emit, stopped, read_to, state_of, onward, joined, Spare, Slack, closed_by, finished}
+use Rattle.marker_steps.specs.inner.Steps.{Raw, State, view_of, halted, raw_in, shows, Room, Inside, pushed, warning, taking, emit, stopped, read_to, state_of, onward, joined, Spare, Slack, closed_by, finished, read_after}
 use Rattle.marker_steps.specs.declared.part.Onward.TheVariants.{On, Stop}
 use Rattle.marker_steps.specs.declared.part.Part.{Part}
 use Rattle.marker_steps.specs.declared.part.Part.TheVariants.{Read, Refused}
@@ -181,3 +181,13 @@ module _ (v : Verdict) (x : Span) (next : Cursor) (k w : ℕ) (r : Raw) where
       read_to next (eqb n 1) q ≡ state_of (settled v x next.at k w) r
   unfolding state_of settled emit some
   settled_read h g en eq = rw (le-ltb max_comparisons (w + length (warned_in v x)) h, le-ltb max_comparisons (k + length (kept_in v)) g, en, kept_one v, eq)
+
+-- a refusal of `settle_one`, whatever order its tests have
+module _ (a : Progress) (cs ws ps : List ℕ) (v : Verdict) (x : Span) (next : Cursor) (n : Counts) where
+  pub over_warnings : a ≡ halted (record { fault = WarningsMany; span = x }) → max_comparisons < n.warned + length (warned_in v x) →
+      shows a cs ws ps ≡ read_after (settled v x next.at) (view_of cs ws ps n)
+  over_warnings e h = shows_refused _ cs ws ps e ∙ settled_warnings v x next n.kept n.warned _ h
+
+  pub over_comparisons : a ≡ halted (record { fault = ComparisonsMany; span = x }) → n.warned + length (warned_in v x) ≤ max_comparisons → max_comparisons < n.kept + length (kept_in v) →
+      shows a cs ws ps ≡ read_after (settled v x next.at) (view_of cs ws ps n)
+  over_comparisons e h g = shows_refused _ cs ws ps e ∙ settled_comparisons v x next n.kept n.warned _ h g

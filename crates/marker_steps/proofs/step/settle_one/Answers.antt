@@ -1,16 +1,20 @@
-use mathlib.Core.Path.{◌∙◌}
+use Rattle.std.proofs.Common.{◌∙◌}
 use native.Mathlib.Omega.{arith}
-use Rattle.marker_steps.proofs.Laws.{shows_refused, shows_read, kept_few, warned_few, settled_warnings, settled_comparisons, settled_read}
+use borrow.Author.Rules.{rules}
+use Rattle.marker_steps.proofs.Laws.{shows_read, kept_few, warned_few, over_warnings, over_comparisons, settled_read}
 use Rattle.marker_steps.proofs.step.settle_one.Goals as goal
 
 pub overflow_add-counts : goal.overflow_add-counts
-overflow_add-counts c = omega (arith, c.requires, c.warned_in-warned.ensures c.args.span, c.kept_in-kept.ensures, warned_few c.args.verdict c.args.span, kept_few c.args.verdict)
+overflow_add-counts c = omega (arith, c.warned_in-warned.ensures c.args.span, warned_few c.args.verdict c.args.span, kept_few c.args.verdict)
 
-pub returns-then-counts-kept-gt-MAX_COMPARISONS : goal.returns-then-counts-kept-gt-MAX_COMPARISONS
-returns-then-counts-kept-gt-MAX_COMPARISONS c = shows_refused _ _ _ _ c.refused-then-counts-kept-gt-MAX_COMPARISONS.ensures ∙ settled_comparisons _ _ _ _ _ _ (omega (arith, c.if-counts-warned-gt-MAX_COMPARISONS.false, c.warned_in-warned.ensures c.args.span)) (omega (arith, c.if-counts-kept-gt-MAX_COMPARISONS.true, c.kept_in-kept.ensures))
-
-pub returns : goal.returns
-returns c = shows_read _ _ _ _ c.read_to.ensures ∙ settled_read _ _ _ _ _ _ (omega (arith, c.if-counts-warned-gt-MAX_COMPARISONS.false, c.warned_in-warned.ensures c.args.span)) (omega (arith, c.if-counts-kept-gt-MAX_COMPARISONS.false, c.kept_in-kept.ensures)) c.kept_in-kept.ensures c.write_down-n.ensures
+pub overflow_add-counts-2 : goal.overflow_add-counts-2
+overflow_add-counts-2 c = omega (arith, c.warned_in-warned.ensures c.args.span, warned_few c.args.verdict c.args.span, kept_few c.args.verdict)
 
 pub returns-then-counts-warned-gt-MAX_COMPARISONS : goal.returns-then-counts-warned-gt-MAX_COMPARISONS
-returns-then-counts-warned-gt-MAX_COMPARISONS c = shows_refused _ _ _ _ c.refused.ensures ∙ settled_warnings _ _ _ _ _ _ (omega (arith, c.if-counts-warned-gt-MAX_COMPARISONS.true, c.warned_in-warned.ensures c.args.span))
+returns-then-counts-warned-gt-MAX_COMPARISONS c = over_warnings _ _ _ _ c.args.verdict c.args.span c.args.next c.args.counts (search rules) (omega (arith, c.warned_in-warned.ensures c.args.span))
+
+pub returns-then-counts-kept-gt-MAX_COMPARISONS : goal.returns-then-counts-kept-gt-MAX_COMPARISONS
+returns-then-counts-kept-gt-MAX_COMPARISONS c = over_comparisons _ _ _ _ c.args.verdict c.args.span c.args.next c.args.counts (search rules) (omega (arith, c.warned_in-warned.ensures c.args.span)) (omega arith)
+
+pub returns : goal.returns
+returns c = shows_read _ _ _ _ c.read_to.ensures ∙ settled_read _ _ _ _ _ _ (omega (arith, c.warned_in-warned.ensures c.args.span)) (omega arith) c.kept_in-kept.ensures c.write_down-n.ensures
