@@ -1,4 +1,4 @@
-// A question to each reader: its typed door and its C function answer, a line each.
+// A question to each reader: its typed door and its function over numbers answer, a line each.
 ghost use Rattle.std.specs.Prelude.{◌≤◌, max};
 ghost use Rattle.output.specs.Room.{most_waiting};
 

@@ -100,7 +100,7 @@ pub fn put_typed_extras(streams: Streams, buf: &mut [u8; ROOM], at: usize, text:
     }
 }
 
-// A line's figures as its C function tells them: the first two are a refusal's place.
+// A line's figures as its function over numbers tells them: the first two are a refusal's place.
 fn figures_of(read: &Requirement) -> LineFigures {
     let name = read.name;
     let counts = read.marker.counts;

@@ -1,5 +1,5 @@
 // A number in decimal digits.
-ghost use Rattle.std.specs.Prelude.{◌≡◌, ◌≢◌, ◌+◌, ◌<◌, ◌%◌, drop, slice_index};
+ghost use Rattle.std.specs.Prelude.{◌≡◌, ◌≢◌, ℕ, ◌+◌, ◌<◌, ◌≤◌, ◌%◌, drop, slice_index};
 ghost use Rattle.output.specs.Digits.{continued};
 
 fn digit(n: u64) -> u8
@@ -11,6 +11,7 @@ fn digit(n: u64) -> u8
 // Puts the digits at the end of the array, and says where they start. A number of 64 bits has 20 at most.
 pub fn spell(number: u64, digits: &mut [u8; 20]) -> usize
     ensures some { result < 20 }
+    ensures digits { (k : ℕ) → result ≤ k → k < 20 → (48 ≤ slice_index digits.new k) × (slice_index digits.new k ≤ 57) }
     ensures value { continued 0 (drop result digits.new) ≡ number }
     ensures shortest { result < 19 → slice_index digits.new result ≢ 48 }
 {

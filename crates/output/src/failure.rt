@@ -3,19 +3,19 @@ use crate::Streams;
 use std::{fmt, io};
 
 // More than any error's words take.
-const ROOM: usize = 512;
+const WORDS_ROOM: usize = 512;
 
 // An error's words, gathered where they are formatted.
 #[derive(Drop)]
 struct Words {
-    text: [u8; ROOM],
+    text: [u8; WORDS_ROOM],
     len: usize,
 }
 
 impl Words {
     fn add(&mut self, byte: u8) {
         let n = self.len;
-        if n < ROOM {
+        if n < WORDS_ROOM {
             self.text[n] = byte;
             self.len = n + 1;
         }
@@ -33,7 +33,7 @@ impl fmt::Write for Words {
 
 fn words_of(why: io::Error) -> Words {
     let mut words = Words {
-        text: [0; ROOM],
+        text: [0; WORDS_ROOM],
         len: 0,
     };
     let _ = fmt::Write::write(&mut words, why);

@@ -151,7 +151,7 @@ fn front_agrees(line: &[u8; 511], words: &[u8; 255], n: usize) -> bool {
     part_agrees(line, words, n)
 }
 
-// A write that fails is not told here: what is written last fails then too.
+// A write that fails is not told here, but where it is the last one, in `main`.
 fn write_part(to: Stdout, buf: &[u8], n: usize) {
     if n <= buf.len() {
         let _ = to.write_all(&buf[..n]);
