@@ -50,7 +50,7 @@ fn in_capitals(variant: &str) -> String {
     out
 }
 
-/// The faults of the proved source, in the order of their numbers.
+/// The faults of the proved source, each as `Name = number`, in the order of their numbers.
 fn faults() -> Vec<&'static str> {
     let source = include_str!("../../../crates/refusal/src/fault.rt");
     let rows = between(source, "pub enum Fault {", "}").lines();
@@ -65,7 +65,10 @@ fn refusals() {
         assert_eq!(constant(&name), usize::from(fault.number()));
         assert_eq!(text(&name), fault.message());
     }
-    assert_eq!(faults(), Fault::ALL.map(|fault| format!("{fault:?}")));
+    assert_eq!(
+        faults(),
+        Fault::ALL.map(|fault| format!("{fault:?} = {}", fault.number()))
+    );
     // The header has no other.
     let (_, rest) = HEADER.split_once("enum hulmisker_refusal {").unwrap();
     let (rows, _) = rest.split_once('}').unwrap();

@@ -15,6 +15,12 @@ onto_front [] old h = refl
 onto_front (x ∷ xs) [] h = absurd (omega arith)
 onto_front {A} (x ∷ xs) (y ∷ old) h = ap (λ (r : List A). x ∷ r) (onto_front xs old (omega arith))
 
+-- a part of another in front of the rest
+pub onto_part : {A : Type 0} (xs old : List A) (n : ℕ) → n ≤ length xs → n ≤ length old → take n xs ++ drop n old ≡ onto (take n xs) old
+onto_part {A} xs old n room space =
+    let l : length (take n xs) ≡ n = length-take-le n xs room in
+    sym (onto_front (take n xs) old (rw l space) ∙ ap (λ (k : ℕ). take n xs ++ drop k old) l)
+
 -- an array keeps its length
 pub onto_length : {A : Type 0} (xs old : List A) → length (onto xs old) ≡ length old
 unfolding onto

@@ -9,7 +9,7 @@ use Rattle.marker_verdict.specs.Found.{found_at}
 use Rattle.marker_value.specs.Operator.{later_symbol_in, symbol_in, symbol_at, in_at, not_at, word_at, operator_at}
 use Rattle.marker_value.specs.Value.{last_name_in, string_name_in, version_name_in, named_at, quoted_at, value_at}
 use Rattle.name.specs.Normal.{bad_at}
-use Rattle.refusal.specs.Answer.{Answer, good, refused}
+use Rattle.refusal.specs.Answer.{Answer, good, refused, on_good}
 use Rattle.refusal.specs.Refusal.{given}
 use Rattle.text.specs.Scan.{run, skip}
 use Rattle.text.specs.Word.{bytes, begins_by}
@@ -29,9 +29,11 @@ use Rattle.marker_steps.specs.Marking.{Marking, some, words_from, program}
 abbrev pub Row : Type 0
 Row = ℕ × List (ℕ × ℕ × ℕ) × List ℕ
 
+abbrev pub row_of : Marking → Row
+row_of m = (length m.comparisons, map (λ w. (w.kind, w.span.start.0, w.span.len)) m.warnings, m.words)
+
 abbrev pub short : Answer Marking → Answer Row
-short (good m) = good (length m.comparisons, map (λ w. (w.kind, w.span.start.0, w.span.len)) m.warnings, m.words)
-short (refused number start len) = refused number start len
+short a = on_good row_of a
 
 -- an item n times and once more, joined by a text
 abbrev pub joined : ℕ → List ℕ → List ℕ → List ℕ

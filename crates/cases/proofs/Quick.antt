@@ -5,6 +5,7 @@ use mathlib.Core.Path.{◌≡◌, refl}
 use Prim.Native.Nat.{ℕ}
 use Prim.Native.String.{String}
 use lib.ListN.{replicate}
+use Rattle.std.specs.Prelude.{Option, Some, None}
 use Rattle.marker_verdict.specs.Found.{found_at}
 use Rattle.marker_value.specs.Operator.{later_symbol_in, symbol_in, symbol_at, in_at, not_at, word_at, operator_at}
 use Rattle.marker_value.specs.Value.{last_name_in, string_name_in, version_name_in, named_at, quoted_at, value_at}
@@ -37,11 +38,9 @@ use Rattle.marker_steps.specs.Marking.{some, words_from, program}
 use Rattle.marker_kind.specs.Code.{sort_code, key_code}
 use Rattle.line.specs.Figures.{figures_of, Buffers, buffers, written}
 use Rattle.line.specs.Line.{line_parts, line_answer, shown}
-use Rattle.line.specs.declared.figures.Url.{Url}
-use Rattle.line.specs.declared.figures.Url.TheVariants.{Absent, At}
 use Rattle.line.specs.declared.figures.Figures.{Figures}
 
--- whether the line was read, the single spans and the counts, and the arrays
+-- whether the line was read; the single spans and the counts, which are 0 where it was not; and the arrays
 abbrev pub Reply : Type 0
 Reply = Answer (Unit {0}) × Figures × Buffers
 
@@ -53,16 +52,16 @@ abbrev pub replied : String → Reply
 replied t = (outcome_of (line_answer (bytes t)), figures_of (shown (line_answer (bytes t))), written (shown (line_answer (bytes t))) nines nines nines nines nines)
 
 -- the name's span, the counts of extras and specifiers, the URL, the counts of comparisons, warnings and words
-abbrev figures : Span → ℕ → ℕ → Url → ℕ → ℕ → ℕ → Figures
+abbrev figures : Span → ℕ → ℕ → Option Span → ℕ → ℕ → ℕ → Figures
 figures name extras specifiers url kept warned words =
     record { name = name; extras = extras; specifiers = specifiers; url = url; marker = record { kept = kept; warned = warned; words = words } }
 
 abbrev pub table : List (String × Reply)
 table =
-    ("a[b,c]>=1", (passes, figures (span 0 1) 2 1 Absent 0 0 1, buffers (2 ∷ 1 ∷ 4 ∷ 1 ∷ 9 ∷ 9 ∷ []) (6 ∷ 3 ∷ 9 ∷ 9 ∷ 9 ∷ 9 ∷ []) nines nines (66 ∷ 9 ∷ 9 ∷ 9 ∷ 9 ∷ 9 ∷ [])))
-    ∷ ("a @ http://x", (passes, figures (span 0 1) 0 0 (At (span 4 8)) 0 0 1, buffers nines nines nines nines (66 ∷ 9 ∷ 9 ∷ 9 ∷ 9 ∷ 9 ∷ [])))
-    ∷ ("a;os_name=='b' or 'c'=='d'", (passes, figures (span 0 1) 0 0 Absent 1 1 1, buffers nines nines (2 ∷ 3 ∷ 0 ∷ 12 ∷ 1 ∷ 9 ∷ []) (5 ∷ 18 ∷ 8 ∷ 9 ∷ 9 ∷ 9 ∷ []) (0 ∷ 9 ∷ 9 ∷ 9 ∷ 9 ∷ 9 ∷ [])))
-    ∷ ("a[b]>=1;os_name", (refused 20 15 0, figures (span 0 0) 0 0 Absent 0 0 0, buffers nines nines nines nines nines))
+    ("a[b,c]>=1", (passes, figures (span 0 1) 2 1 None 0 0 1, buffers (2 ∷ 1 ∷ 4 ∷ 1 ∷ 9 ∷ 9 ∷ []) (6 ∷ 3 ∷ 9 ∷ 9 ∷ 9 ∷ 9 ∷ []) nines nines (66 ∷ 9 ∷ 9 ∷ 9 ∷ 9 ∷ 9 ∷ [])))
+    ∷ ("a @ http://x", (passes, figures (span 0 1) 0 0 (Some (span 4 8)) 0 0 1, buffers nines nines nines nines (66 ∷ 9 ∷ 9 ∷ 9 ∷ 9 ∷ 9 ∷ [])))
+    ∷ ("a;os_name=='b' or 'c'=='d'", (passes, figures (span 0 1) 0 0 None 1 1 1, buffers nines nines (2 ∷ 3 ∷ 0 ∷ 12 ∷ 1 ∷ 9 ∷ []) (5 ∷ 18 ∷ 8 ∷ 9 ∷ 9 ∷ 9 ∷ []) (0 ∷ 9 ∷ 9 ∷ 9 ∷ 9 ∷ 9 ∷ [])))
+    ∷ ("a[b]>=1;os_name", (refused 20 15 0, figures (span 0 0) 0 0 None 0 0 0, buffers nines nines nines nines nines))
     ∷ []
 
 pub holds : map (λ e. replied e.0) table ≡ map (λ e. e.1) table

@@ -4,15 +4,15 @@ use mathlib.Core.List.{List, [], ◌∷◌, ◌++◌, map}
 use mathlib.Core.Path.{◌≡◌, refl}
 use Prim.Native.Nat.{ℕ, zero, suc, ◌+◌}
 use Prim.Native.String.{String}
-use lib.ListN.{length, replicate}
+use lib.ListN.{replicate}
+use Rattle.std.specs.Prelude.{Option, Some, None}
 use Rattle.marker_verdict.specs.Found.{found_at}
 use Rattle.marker_value.specs.Operator.{later_symbol_in, symbol_in, symbol_at, in_at, not_at, word_at, operator_at}
 use Rattle.marker_value.specs.Value.{last_name_in, string_name_in, version_name_in, named_at, quoted_at, value_at}
 use Rattle.arrays.specs.Front.{onto}
 use Rattle.name.specs.Normal.{normal, bad_at}
 use Rattle.name.specs.Normalise.{normalised, output}
-use Rattle.refusal.specs.Answer.{Answer, good, refused}
-use Rattle.cursor.specs.Check.{checked}
+use Rattle.refusal.specs.Answer.{Answer, good, refused, on_good}
 use Rattle.refusal.specs.Refusal.{given}
 use Rattle.text.specs.Scan.{run, skip}
 use Rattle.text.specs.Word.{bytes, begins_by}
@@ -35,13 +35,11 @@ use Rattle.line_specifiers.specs.Specifier.{text_to, item_at as textItemAt}
 use Rattle.line_specifiers.specs.Specifiers.{bare_at, specifiers_at}
 use Rattle.line_name.specs.Name.{name_at}
 use Rattle.line_head.specs.Head.{tail_at, wanted_at, texts_at, from_tail, from_wanted, from_extras, head, texts_from, extras_of, texts_of}
-use Rattle.marker.specs.Answer.{marker_answer}
+use Rattle.marker.specs.Answer.{entry_answer}
 use Rattle.marker_steps.specs.Grammar.{kept_of, warned_of, settled, settle, word_ahead, more, chain, item_at, item_of, and_of, or_of, closed, group_at, ending, parse_from}
-use Rattle.marker_steps.specs.Marking.{Marking, some, words_from, program}
+use Rattle.marker_steps.specs.Marking.{some, words_from, program}
 use Rattle.line.specs.Line.{Parts, line_parts, line_answer}
-use Rattle.line.specs.declared.figures.Url.{Url}
-use Rattle.line.specs.declared.figures.Url.TheVariants.{Absent, At}
-use Rattle.cases.proofs.Markers.{Row, short, joined}
+use Rattle.cases.proofs.Markers.{Row, row_of, short, joined}
 
 -- what is asked: an entry and its text, or a line's or a marker's bytes
 pub data Question : Type 0 where
@@ -55,30 +53,23 @@ pub data Reply : Type 0 where
   written : ℕ → List ℕ → Reply
   required : ℕ × ℕ → List (ℕ × ℕ) → List (ℕ × ℕ) → List (ℕ × ℕ) → Row → Reply
 
-abbrev on : {A B : Type 0} → (A → B) → Answer A → Answer B
-on f (good a) = good (f a)
-on f (refused number start len) = refused number start len
-
 abbrev placed : Span → ℕ × ℕ
 placed x = (x.start.0, x.len)
 
-abbrev urls : Url → List (ℕ × ℕ)
-urls Absent = []
-urls (At x) = placed x ∷ []
-
-abbrev row_of : Marking → Row
-row_of m = (length m.comparisons, map (λ w. (w.kind, w.span.start.0, w.span.len)) m.warnings, m.words)
+abbrev urls : Option Span → List (ℕ × ℕ)
+urls None = []
+urls (Some x) = placed x ∷ []
 
 abbrev parts : Parts → Reply
 parts p = required (placed p.name) (map placed p.extras) (map placed p.specifiers) (urls p.url) (row_of p.marking)
 
 abbrev replied : Question → Answer Reply
-replied (marker t) = on marked (short (checked (bytes t) (marker_answer (bytes t) 0)))
-replied (extras t) = on (λ l. listed (map placed l)) (entry (bytes t))
-replied (name t) = on (λ n. written n (output (bytes t) (bytes "#########"))) (normalised (bytes t) 9)
-replied (line t) = on parts (line_answer (bytes t))
-replied (line_of s) = on parts (line_answer s)
-replied (marker_of s) = on marked (short (checked s (marker_answer s 0)))
+replied (marker t) = on_good marked (short (entry_answer (bytes t)))
+replied (extras t) = on_good (λ l. listed (map placed l)) (entry (bytes t))
+replied (name t) = on_good (λ n. written n (output (bytes t) (bytes "#########"))) (normalised (bytes t) 9)
+replied (line t) = on_good parts (line_answer (bytes t))
+replied (line_of s) = on_good parts (line_answer s)
+replied (marker_of s) = on_good marked (short (entry_answer s))
 
 abbrev nothing : Row
 nothing = (0, [], 66 ∷ [])

@@ -13,8 +13,7 @@ use Rattle.cursor.specs.Check.{checked}
 use Rattle.refusal.specs.Refusal.{told, given}
 use Rattle.text.specs.Class.{is_ascii}
 use Rattle.text.specs.Scan.{run}
-use Rattle.refusal.specs.declared.fault.Outcome.{Outcome}
-use Rattle.refusal.specs.declared.fault.Outcome.TheVariants.{Good, Refused}
+use Rattle.std.specs.Prelude.{Result, Ok, Err}
 use Rattle.refusal.specs.declared.fault.Refusal.{Refusal}
 
 -- a refusal is one whatever the entry would answer
@@ -22,8 +21,8 @@ given_as : {A B : Type 0} (why : Refusal) (n a l : ℕ) → given {A = A} why �
 unfolding given
 given_as why n a l e = cc
 
-module _ {A : Type 0} (s : List ℕ) (k : Outcome) (next : Answer A) (made : told k ≡ checked s passes) where
-  pub checked_refused : (why : Refusal) → k ≡ Refused why → given why ≡ checked s next
+module _ {A : Type 0} (s : List ℕ) (k : Result (Unit {0}) Refusal) (next : Answer A) (made : told k ≡ checked s passes) where
+  pub checked_refused : (why : Refusal) → k ≡ Err why → given why ≡ checked s next
   checked_refused why e = go (ltb 4096 (length s)) (ltb (run is_ascii s) (length s)) (sym (ap told e) ∙ made)
     where
       go : (t u : Bool) → given why ≡ cond t (refused 1 4096 1) (cond u (refused 2 (run is_ascii s) 1) passes) → given why ≡ cond t (refused 1 4096 1) (cond u (refused 2 (run is_ascii s) 1) next)
@@ -31,7 +30,7 @@ module _ {A : Type 0} (s : List ℕ) (k : Outcome) (next : Answer A) (made : tol
       go false true h = given_as why 2 (run is_ascii s) 1 h
       go false false h = unfold given in cc
 
-  pub checked_good : (z : Answer A) → k ≡ Good → z ≡ next → z ≡ checked s next
+  pub checked_good : (z : Answer A) → k ≡ Ok tt → z ≡ next → z ≡ checked s next
   checked_good z e f = go (ltb 4096 (length s)) (ltb (run is_ascii s) (length s)) (sym (ap told e) ∙ made)
     where
       go : (t u : Bool) → passes ≡ cond t (refused 1 4096 1) (cond u (refused 2 (run is_ascii s) 1) passes) → z ≡ cond t (refused 1 4096 1) (cond u (refused 2 (run is_ascii s) 1) next)
@@ -44,7 +43,7 @@ pub record Readable (s : List ℕ) : Type 0 where
   pub short : length s ≤ 4096
   pub ascii : run is_ascii s ≡ length s
 
-pub readable : (s : List ℕ) (k : Outcome) → told k ≡ checked s passes → k ≡ Good → Readable s
+pub readable : (s : List ℕ) (k : Result (Unit {0}) Refusal) → told k ≡ checked s passes → k ≡ Ok tt → Readable s
 readable s k made e = go (ltb 4096 (length s)) (ltb (run is_ascii s) (length s)) refl refl (sym (ap told e) ∙ made)
   where
     go : (t u : Bool) → ltb 4096 (length s) ≡ t → ltb (run is_ascii s) (length s) ≡ u → passes ≡ cond t (refused 1 4096 1) (cond u (refused 2 (run is_ascii s) 1) passes) → Readable s

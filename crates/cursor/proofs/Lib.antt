@@ -1,2 +1,5 @@
 pub mod Checks
 pub mod Laws
+pub mod Own
+pub mod Passed
+mod Runs

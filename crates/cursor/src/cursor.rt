@@ -1,5 +1,5 @@
 // A place in a lent line, and the moves from it. Each takes a cursor and hands back the next one; the line stands beside it.
-ghost use Rattle.std.specs.Prelude.{◌≡◌};
+ghost use Rattle.std.specs.Prelude.{◌≡◌, ℕ, Bool};
 ghost use Rattle.text.specs.Class.{is_ascii, is_space, is_digit, is_alnum, is_name_byte, is_operator_byte, is_token_byte, is_word_byte, is_operator_word_byte, is_bare_byte, is_enclosed_byte, is_other};
 ghost use Rattle.cursor.specs.Cursor.{peek_at, next_at, span_to};
 ghost use Rattle.text.specs.Scan.{skip};
@@ -10,19 +10,7 @@ use text::{
     is_operator_word_byte, is_other, is_space, is_token_byte, is_word_byte,
 };
 
-#[derive(Clone, Copy)]
-pub enum Peek {
-    Byte(u8),
-    End,
-}
-
-#[derive(Clone, Copy)]
-pub enum Step {
-    Byte(u8, Cursor),
-    End,
-}
-
-#[derive(Clone, Copy)]
+#[derive(Clone, Copy, Debug, PartialEq, Eq)]
 pub struct Cursor {
     pub at: usize,
 }
@@ -46,26 +34,17 @@ impl Cursor {
         Cursor { at: 0 }
     }
 
-    pub fn peek(self, line: &[u8]) -> Peek
+    pub fn peek(self, line: &[u8]) -> Option<u8>
         ensures { result ≡ peek_at line.now self }
     {
-        let at = self.at;
-        if at < line.len() {
-            Peek::Byte(line[at])
-        } else {
-            Peek::End
-        }
+        line.get(self.at).copied()
     }
 
-    pub fn next(self, line: &[u8]) -> Step
+    pub fn next(self, line: &[u8]) -> Option<(u8, Cursor)>
         ensures { result ≡ next_at line.now self }
     {
-        let at = self.at;
-        if at < line.len() {
-            Step::Byte(line[at], Cursor { at: at + 1 })
-        } else {
-            Step::End
-        }
+        let byte = self.peek(line)?;
+        Some((byte, Cursor { at: self.at + 1 }))
     }
 
     // The bytes up to another cursor, none if that one stands before this.
@@ -83,123 +62,88 @@ impl Cursor {
         }
     }
 
+    // The cursor behind the longest run of bytes from here that all are of a class.
+    pub fn take<F: Fn(u8) -> bool>(self, line: &[u8], class: F) -> Cursor
+        requires { F.IsAlwaysCallable class }
+        ensures { (p : ℕ → Bool) → ((b : ℕ) → (r : Bool) → F.post class b r → r ≡ p b)
+            → result.at ≡ skip p line.now self.at }
+    {
+        if line.len() <= self.at {
+            return self;
+        }
+        let run = line[self.at..].iter().take_while(|b| class(**b)).count();
+        Cursor { at: self.at + run }
+    }
+
     pub fn skip_whitespace(self, line: &[u8]) -> Cursor
         ensures { result.at ≡ skip is_space line.now self.at }
     {
-        let mut at = self.at;
-        while at < line.len() && is_space(line[at]) {
-            at += 1;
-        }
-        Cursor { at }
+        self.take(line, |b| is_space(b))
     }
 
     pub fn take_ascii(self, line: &[u8]) -> Cursor
         ensures { result.at ≡ skip is_ascii line.now self.at }
     {
-        let mut at = self.at;
-        while at < line.len() && is_ascii(line[at]) {
-            at += 1;
-        }
-        Cursor { at }
+        self.take(line, |b| is_ascii(b))
     }
 
     pub fn take_digits(self, line: &[u8]) -> Cursor
         ensures { result.at ≡ skip is_digit line.now self.at }
     {
-        let mut at = self.at;
-        while at < line.len() && is_digit(line[at]) {
-            at += 1;
-        }
-        Cursor { at }
+        self.take(line, |b| is_digit(b))
     }
 
     pub fn take_alnum(self, line: &[u8]) -> Cursor
         ensures { result.at ≡ skip is_alnum line.now self.at }
     {
-        let mut at = self.at;
-        while at < line.len() && is_alnum(line[at]) {
-            at += 1;
-        }
-        Cursor { at }
+        self.take(line, |b| is_alnum(b))
     }
 
     pub fn take_name(self, line: &[u8]) -> Cursor
         ensures { result.at ≡ skip is_name_byte line.now self.at }
     {
-        let mut at = self.at;
-        while at < line.len() && is_name_byte(line[at]) {
-            at += 1;
-        }
-        Cursor { at }
+        self.take(line, |b| is_name_byte(b))
     }
 
     pub fn take_operator(self, line: &[u8]) -> Cursor
         ensures { result.at ≡ skip is_operator_byte line.now self.at }
     {
-        let mut at = self.at;
-        while at < line.len() && is_operator_byte(line[at]) {
-            at += 1;
-        }
-        Cursor { at }
+        self.take(line, |b| is_operator_byte(b))
     }
 
     pub fn take_token(self, line: &[u8]) -> Cursor
         ensures { result.at ≡ skip is_token_byte line.now self.at }
     {
-        let mut at = self.at;
-        while at < line.len() && is_token_byte(line[at]) {
-            at += 1;
-        }
-        Cursor { at }
+        self.take(line, |b| is_token_byte(b))
     }
 
     pub fn take_word(self, line: &[u8]) -> Cursor
         ensures { result.at ≡ skip is_word_byte line.now self.at }
     {
-        let mut at = self.at;
-        while at < line.len() && is_word_byte(line[at]) {
-            at += 1;
-        }
-        Cursor { at }
+        self.take(line, |b| is_word_byte(b))
     }
 
     pub fn take_operator_word(self, line: &[u8]) -> Cursor
         ensures { result.at ≡ skip is_operator_word_byte line.now self.at }
     {
-        let mut at = self.at;
-        while at < line.len() && is_operator_word_byte(line[at]) {
-            at += 1;
-        }
-        Cursor { at }
+        self.take(line, |b| is_operator_word_byte(b))
     }
 
     pub fn take_bare(self, line: &[u8]) -> Cursor
         ensures { result.at ≡ skip is_bare_byte line.now self.at }
     {
-        let mut at = self.at;
-        while at < line.len() && is_bare_byte(line[at]) {
-            at += 1;
-        }
-        Cursor { at }
+        self.take(line, |b| is_bare_byte(b))
     }
 
     pub fn take_enclosed(self, line: &[u8]) -> Cursor
         ensures { result.at ≡ skip is_enclosed_byte line.now self.at }
     {
-        let mut at = self.at;
-        while at < line.len() && is_enclosed_byte(line[at]) {
-            at += 1;
-        }
-        Cursor { at }
+        self.take(line, |b| is_enclosed_byte(b))
     }
 
     pub fn take_to_quote(self, line: &[u8], quote: u8) -> Cursor
         ensures { result.at ≡ skip (is_other quote) line.now self.at }
     {
-        let mut at = self.at;
-        while at < line.len() && is_other(quote, line[at]) {
-            at += 1;
-        }
-        Cursor { at }
+        self.take(line, |b| is_other(quote, b))
     }
 }

@@ -5,4 +5,4 @@ mod check;
 mod cursor;
 
 pub use check::check_line;
-pub use cursor::{Cursor, Peek, Step};
+pub use cursor::Cursor;

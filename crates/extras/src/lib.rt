@@ -3,4 +3,4 @@
 
 mod entry;
 
-pub use entry::{Counted, Extras, extras_into, read_extras};
+pub use entry::{Extras, extras_into, read_extras};

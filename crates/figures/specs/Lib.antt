@@ -1,4 +1,2 @@
--- what a function returns, and what it leaves in `figures` first
+-- what a function returns, and what it leaves in `figures`
 pub mod Numbers
--- a refusal's number, start and length, as they are handed on
-pub mod Verdict

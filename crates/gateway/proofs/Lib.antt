@@ -1,2 +1,2 @@
--- the laws of what is left in `figures`
-pub mod Laws
+-- the laws of what a run, a marker and a line leave
+mod Laws

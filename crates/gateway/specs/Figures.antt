@@ -1,13 +1,12 @@
 -- What a run, a marker and a line leave in `figures`, and a line in its lists.
-use Rattle.std.specs.Prelude.{ℕ, Bool, cond, List, [], ◌∷◌, ◌++◌, length}
+use Rattle.std.specs.Prelude.{ℕ, Bool, cond, List, [], ◌∷◌, ◌++◌, length, Option, Some, None}
 use Rattle.refusal.specs.Answer.{Answer, on_good}
 use Rattle.figures.specs.Numbers.{place_of}
 use Rattle.marker.specs.Answer.{listed_of}
 use Rattle.marker_steps.specs.Marking.{Marking}
 use Rattle.line.specs.Figures.{Buffers, written}
 use Rattle.line.specs.Line.{Parts, line_answer, shown}
-use Rattle.line.specs.declared.figures.Url.{Url}
-use Rattle.line.specs.declared.figures.Url.TheVariants.{Absent, At}
+use Rattle.refusal.specs.declared.place.Span.{Span}
 use Rattle.program_run.specs.Run.{ran}
 
 -- a program's answer as a number: 1 for yes, 0 for no
@@ -26,9 +25,9 @@ abbrev pub marker_figures : Answer Marking → List ℕ
 marker_figures a = place_of a ++ marker_counts (listed_of a)
 
 -- 1 and the URL's span, or 0, 0 and 0
-abbrev pub url_figures : Url → List ℕ
-url_figures Absent = 0 ∷ 0 ∷ 0 ∷ []
-url_figures (At at) = 1 ∷ at.start.0 ∷ at.len ∷ []
+abbrev pub url_figures : Option Span → List ℕ
+url_figures None = 0 ∷ 0 ∷ 0 ∷ []
+url_figures (Some at) = 1 ∷ at.start.0 ∷ at.len ∷ []
 
 -- the name's span, the URL, how many extras and specifiers, the marker's counts
 abbrev pub part_figures : Parts → List ℕ

@@ -7,13 +7,9 @@ ghost use Rattle.marker_steps.specs.Marking.{comparisons_as, warnings_as};
 ghost use Rattle.line.specs.Figures.{buffers};
 ghost use Rattle.line.specs.Line.{line_answer};
 ghost use Rattle.figures.specs.Numbers.{number_of, count_figures};
-ghost use Rattle.gateway.specs.Figures.{marker_figures, url_figures, line_figures, lists_left};
+ghost use Rattle.gateway.specs.Figures.{marker_figures, line_figures, lists_left};
 
-use extras::Counted;
-use figures::{
-    CountFigures, LineFigures, MarkerFigures, accepted, refused, tell_count, verdict_of,
-};
-use line::Url;
+use figures::{CountFigures, LineFigures, MarkerFigures, tell};
 use marker_store::{Comparisons, Warnings, Words};
 use spans::SpanNumbers;
 
@@ -23,10 +19,9 @@ pub fn hulmisker_extras(line: &[u8], figures: &mut CountFigures, extras: &mut Sp
     ensures figures { figures.new ≡ count_figures (counts (entry line.now)) }
     ensures extras { extras.new ≡ written (entry line.now) extras.old }
 {
-    match extras::extras_into(line, extras) {
-        Counted::Read(n) => tell_count(accepted(), n, figures),
-        Counted::Refused(why) => tell_count(refused(why), 0, figures),
-    }
+    let answer = extras::extras_into(line, extras);
+    *figures = [0, 0, answer.unwrap_or(0)];
+    tell(&answer, figures)
 }
 
 // The figures behind the first two are the numbers of comparisons, warnings and words.
@@ -45,43 +40,10 @@ pub fn hulmisker_marker(
         ≡ onto (warnings_as (entry_marking line.now)) warnings.old }
     ensures words { words.new ≡ onto (entry_marking line.now).words words.old }
 {
-    let found = marker::read_quick(line, comparisons, warnings, words);
-    let outcome = found.outcome;
-    let counts = found.counts;
-    let verdict = verdict_of(outcome);
-    *figures = [
-        verdict.start,
-        verdict.len,
-        counts.kept,
-        counts.warned,
-        counts.words,
-    ];
-    verdict.number
-}
-
-// Whether there is a URL, 1 or 0, and its span.
-#[derive(Clone, Copy)]
-struct Link {
-    given: usize,
-    start: usize,
-    len: usize,
-}
-
-fn link_of(url: Url) -> Link
-    ensures { result.given ∷ result.start ∷ result.len ∷ [] ≡ url_figures url }
-{
-    match url {
-        Url::Absent => Link {
-            given: 0,
-            start: 0,
-            len: 0,
-        },
-        Url::At(at) => Link {
-            given: 1,
-            start: at.start.0,
-            len: at.len,
-        },
-    }
+    let answer = marker::read_quick(line, comparisons, warnings, words);
+    let counts = answer.unwrap_or_default();
+    *figures = [0, 0, counts.kept, counts.warned, counts.words];
+    tell(&answer, figures)
 }
 
 // The figures behind the first two are the name's span, the URL, and the numbers of extras, specifiers, comparisons, warnings and words.
@@ -101,27 +63,22 @@ pub fn hulmisker_line(
         ≡ lists_left line.now (buffers extras.old specifiers.old
         comparisons.old warnings.old words.old) }
 {
-    let found = line::read_line_into(line, extras, specifiers, comparisons, warnings, words);
-    let outcome = found.outcome;
-    let parts = found.figures;
-    let verdict = verdict_of(outcome);
-    let name = parts.name;
-    let url = parts.url;
-    let link = link_of(url);
-    let marker = parts.marker;
+    let answer = line::read_line_into(line, extras, specifiers, comparisons, warnings, words);
+    let parts = answer.unwrap_or_default();
+    let url = parts.url.unwrap_or_default();
     *figures = [
-        verdict.start,
-        verdict.len,
-        name.start.0,
-        name.len,
-        link.given,
-        link.start,
-        link.len,
+        0,
+        0,
+        parts.name.start.0,
+        parts.name.len,
+        usize::from(parts.url.is_some()),
+        url.start.0,
+        url.len,
         parts.extras,
         parts.specifiers,
-        marker.kept,
-        marker.warned,
-        marker.words,
+        parts.marker.kept,
+        parts.marker.warned,
+        parts.marker.words,
     ];
-    verdict.number
+    tell(&answer, figures)
 }

@@ -4,28 +4,27 @@ ghost use Rattle.name.specs.Normalise.{normalised, output};
 ghost use Rattle.figures.specs.Numbers.{number_of, place_of, count_figures};
 ghost use Rattle.gateway.specs.Texts.{version_answer, pattern_answer, specifier_answer};
 
-use figures::{CountFigures, PlaceFigures, accepted, refused, tell, tell_count};
-use name::Normalised;
+use figures::{CountFigures, PlaceFigures, tell};
 
 pub fn hulmisker_version(text: &[u8], figures: &mut PlaceFigures) -> u8
     ensures number { result ≡ number_of (version_answer text.now) }
     ensures figures { figures.new ≡ place_of (version_answer text.now) }
 {
-    tell(version_entry::version(text), figures)
+    tell(&version_entry::version(text), figures)
 }
 
 pub fn hulmisker_pattern(text: &[u8], figures: &mut PlaceFigures) -> u8
     ensures number { result ≡ number_of (pattern_answer text.now) }
     ensures figures { figures.new ≡ place_of (pattern_answer text.now) }
 {
-    tell(version_entry::pattern(text), figures)
+    tell(&version_entry::pattern(text), figures)
 }
 
 pub fn hulmisker_specifier(text: &[u8], figures: &mut PlaceFigures) -> u8
     ensures number { result ≡ number_of (specifier_answer text.now) }
     ensures figures { figures.new ≡ place_of (specifier_answer text.now) }
 {
-    tell(version_entry::specifier(text), figures)
+    tell(&version_entry::specifier(text), figures)
 }
 
 // The normal form goes to the output's front; its length is the third figure.
@@ -35,8 +34,7 @@ pub fn hulmisker_normalise(name: &[u8], out: &mut [u8], figures: &mut CountFigur
         ≡ count_figures (normalised name.now (length out.old)) }
     ensures output { out.new ≡ output name.now out.old }
 {
-    match name::normalise(name, out) {
-        Normalised::Written(n) => tell_count(accepted(), n, figures),
-        Normalised::Refused(why) => tell_count(refused(why), 0, figures),
-    }
+    let answer = name::normalise(name, out);
+    *figures = [0, 0, answer.unwrap_or(0)];
+    tell(&answer, figures)
 }

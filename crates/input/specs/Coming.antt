@@ -1,11 +1,9 @@
 -- What is still to come of what is read, where that is known, and what a line takes of it.
-use Rattle.std.specs.Prelude.{ℕ, ◌-◌, ◌<◌, ◌≡◌, ◌≢◌, List, [], ◌∷◌, length, take, drop, slice_index, All, Option, ⊤}
+use Rattle.std.specs.Prelude.{ℕ, ◌-◌, ◌<◌, ◌≡◌, ◌≢◌, List, [], ◌∷◌, length, take, drop, slice_index, All, Option, Some, None, Result, Ok, Err, ⊤}
 use Rattle.std.specs.Io.KnownBytes.{Consumes, Keeps, IsAtEnd, prepend_known}
 use Rattle.input.specs.declared.Feed.{Feed}
 use Rattle.input.specs.declared.Ended.{Ended}
 use Rattle.input.specs.declared.Ended.TheVariants.{ByLineFeed, ByEnd, ByFault}
-use Rattle.input.specs.declared.Next.{Next}
-use Rattle.input.specs.declared.Next.TheVariants.{Byte, End}
 
 -- the bytes that were fetched and not taken
 abbrev pub waiting : Feed → List ℕ → List ℕ
@@ -35,8 +33,7 @@ IsTrueEnd ByEnd len left = len < 18446744073709551615 → IsAtEnd left
 IsTrueEnd (ByFault why) len left = ⊤
 
 -- one byte is taken, or none: at the end, or since a read failed
-abbrev pub IsNext : Next → Option (List ℕ) → Feed → List ℕ → Option (List ℕ) → Type 0
-IsNext (Byte byte after) old feed buf left = Consumes old (coming after buf left) (byte ∷ [])
-IsNext (End ByLineFeed) old feed buf left = ⊥
-IsNext (End ByEnd) old feed buf left = Keeps old (coming feed buf left) × IsAtEnd (coming feed buf left)
-IsNext (End (ByFault why)) old feed buf left = Keeps old (coming feed buf left)
+abbrev pub IsNext : {E : Type 0} → Result (Option (ℕ × Feed)) E → Option (List ℕ) → Feed → List ℕ → Option (List ℕ) → Type 0
+IsNext (Ok (Some (byte, after))) old feed buf left = Consumes old (coming after buf left) (byte ∷ [])
+IsNext (Ok None) old feed buf left = Keeps old (coming feed buf left) × IsAtEnd (coming feed buf left)
+IsNext (Err why) old feed buf left = Keeps old (coming feed buf left)

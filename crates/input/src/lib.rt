@@ -13,32 +13,28 @@ pub const ROOM: usize = 65536;
 // As much of a line as is held: more than any reader here takes.
 pub const HELD: usize = 20001;
 
-// Which bytes of the array are still to be taken.
-#[derive(Clone, Copy)]
+// Which bytes of the lent array are still to be taken. The array stays beside it, since `take_line` promises something of each.
+#[derive(Clone, Copy, Debug, PartialEq, Eq)]
 pub struct Feed {
     pub at: usize,
     pub end: usize,
 }
 
-#[derive(Clone, Copy)]
+// By which of three a line ended.
+#[derive(Clone, Copy, Debug)]
 pub enum Ended {
     ByLineFeed,
     ByEnd,
     ByFault(io::Error),
 }
 
-#[derive(Clone, Copy)]
-enum Next {
-    Byte { byte: u8, feed: Feed },
-    End(Ended),
-}
-
 // The length is the line's own, without its LF; the last byte is 0 if it is empty.
-#[derive(Clone, Copy)]
+#[derive(Clone, Copy, Debug)]
 pub struct Line {
     pub feed: Feed,
     pub len: usize,
     pub held: usize,
+    // 0 and no None where the line is empty: the definition `IsLine` says so.
     pub last: u8,
     pub ended: Ended,
 }
@@ -52,42 +48,35 @@ impl Feed {
     }
 }
 
-fn first_byte(buf: &[u8; ROOM], end: usize) -> Next
-    ensures { result ≡ Next.Byte (slice_index buf.now 0) (record { at = 1; end = end }) }
-{
-    Next::Byte {
-        byte: buf[0],
-        feed: Feed { at: 1, end },
-    }
-}
-
-// A read that answers nothing is the end, and one that fails a fault.
-fn fetch<R: Read>(from: &mut R, buf: &mut [u8; ROOM]) -> Next
+// A read that answers nothing is the end.
+fn fetch<R: Read>(from: &mut R, buf: &mut [u8; ROOM]) -> io::Result<Option<(u8, Feed)>>
     ensures { IsNext result (R.remaining from.old) (record { at = 0; end = 0 }) buf.new (R.remaining from.new) }
 {
-    match from.read(buf) {
-        Ok(0) => Next::End(Ended::ByEnd),
-        Ok(n) => first_byte(buf, n),
-        Err(why) => Next::End(Ended::ByFault(why)),
+    let end = from.read(buf)?;
+    if end == 0 {
+        return Ok(None);
     }
+    Ok(Some((buf[0], Feed { at: 1, end })))
 }
 
-fn next_byte<R: Read>(from: &mut R, buf: &mut [u8; ROOM], feed: Feed) -> Next
+fn next_byte<R: Read>(
+    from: &mut R,
+    buf: &mut [u8; ROOM],
+    feed: Feed,
+) -> io::Result<Option<(u8, Feed)>>
     ensures { IsNext result (coming feed buf.old (R.remaining from.old)) feed buf.new (R.remaining from.new) }
 {
-    let at = feed.at;
-    if at < feed.end && at < ROOM {
-        return Next::Byte {
-            byte: buf[at],
-            feed: Feed {
-                at: at + 1,
-                end: feed.end,
-            },
+    if feed.at < feed.end && feed.at < ROOM {
+        let after = Feed {
+            at: feed.at + 1,
+            ..feed
         };
+        return Ok(Some((buf[feed.at], after)));
     }
     fetch(from, buf)
 }
 
+// (By an `if`: with `get_mut` the proof did not close.)
 fn hold(line: &mut [u8; HELD], at: usize, byte: u8)
     ensures { line.new ≡ slice_set line.old at byte }
 {
@@ -102,7 +91,7 @@ fn line_of(feed: Feed, len: usize, last: u8, ended: Ended) -> Line
     Line {
         feed,
         len,
-        held: if len < HELD { len } else { HELD },
+        held: len.min(HELD),
         last,
         ended,
     }
@@ -122,25 +111,20 @@ pub fn take_line<R: Read>(
     ensures end { IsTrueEnd result.ended result.len (coming result.feed buf.new (R.remaining from.new)) }
 {
     let mut rest = feed;
-    let mut len: usize = 0;
-    let mut last: u8 = 0;
-    while len < usize::MAX {
+    let mut last = 0;
+    for len in 0..usize::MAX {
         match next_byte(from, buf, rest) {
-            Next::End(ended) => {
-                return line_of(rest, len, last, ended);
-            }
-            Next::Byte { byte, feed: after } => {
-                rest = after;
-                if byte == b'\n' {
-                    return line_of(rest, len, last, Ended::ByLineFeed);
-                }
+            Ok(None) => return line_of(rest, len, last, Ended::ByEnd),
+            Err(why) => return line_of(rest, len, last, Ended::ByFault(why)),
+            Ok(Some((b'\n', after))) => return line_of(after, len, last, Ended::ByLineFeed),
+            Ok(Some((byte, after))) => {
                 hold(line, len, byte);
                 last = byte;
-                len += 1;
+                rest = after;
             }
         }
     }
-    line_of(rest, len, last, Ended::ByEnd)
+    line_of(rest, usize::MAX, last, Ended::ByEnd)
 }
 
 // Reads until the array is full, the input ends or a read fails, and says how many bytes stand at the front then.
@@ -151,9 +135,8 @@ pub fn read_full<R: Read>(from: &mut R, buf: &mut [u8]) -> usize
     let mut done: usize = 0;
     while done < buf.len() {
         match from.read(&mut buf[done..]) {
-            Ok(0) => return done,
+            Ok(0) | Err(_) => return done,
             Ok(n) => done += n,
-            Err(_) => return done,
         }
     }
     done

@@ -1,16 +1,14 @@
 -- How the quick door answers what is read, and what the lent arrays hold afterwards.
-use Rattle.std.specs.Prelude.{ℕ, List, ◌≡◌, length}
+use Rattle.std.specs.Prelude.{ℕ, List, ◌≡◌, length, Result}
 use Rattle.arrays.specs.Front.{onto}
-use Rattle.refusal.specs.Answer.{Answer, outcome_of}
+use Rattle.refusal.specs.Answer.{Answer, on_good}
 use Rattle.refusal.specs.Refusal.{told}
-use Rattle.refusal.specs.declared.fault.Outcome.TheVariants.{Refused}
 use Rattle.refusal.specs.declared.fault.Refusal.{Refusal}
 use Rattle.spans.specs.Flat.{spans_onto}
 use Rattle.marker.specs.Answer.{counts_of}
 use Rattle.marker_steps.specs.Marking.{comparisons_as, warnings_as}
-use Rattle.line.specs.Line.{Parts, empty, shown}
+use Rattle.line.specs.Line.{Parts, shown}
 use Rattle.line.specs.declared.figures.Figures.{Figures}
-use Rattle.line.specs.declared.quick.QuickLine.{QuickLine}
 
 -- the single spans and the counts
 abbrev pub figures_of : Parts → Figures
@@ -32,12 +30,7 @@ abbrev pub written : Parts → List ℕ → List ℕ → List ℕ → List ℕ �
 written p extras texts comparisons warnings words =
     buffers (spans_onto p.extras extras) (spans_onto p.specifiers texts) (onto (comparisons_as p.marking) comparisons) (onto (warnings_as p.marking) warnings) (onto p.marking.words words)
 
--- "A refusal carries number, start, length and nothing else": all counts are 0
-abbrev pub refused_by : Refusal → QuickLine
-refused_by why = record { outcome = Refused why; figures = figures_of empty }
-
 -- what the door promises of its reply and of the arrays, for what the line is read as
-pub record ReadInto (a : Answer Parts) (before : Buffers) (r : QuickLine) (after : Buffers) : Type 0 where
-  pub outcome : told r.outcome ≡ outcome_of a
-  pub figures : r.figures ≡ figures_of (shown a)
+pub record ReadInto (a : Answer Parts) (before : Buffers) (r : Result Figures Refusal) (after : Buffers) : Type 0 where
+  pub answer : told r ≡ on_good figures_of a
   pub output : after ≡ written (shown a) before.extras before.texts before.comparisons before.warnings before.words

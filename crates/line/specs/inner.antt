@@ -1,2 +1,2 @@
--- what the door holds when the parts before the marker are read
-pub mod Ready
+-- the figures of the parts before the marker put together with those of the marker
+pub mod Together

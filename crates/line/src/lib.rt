@@ -4,5 +4,5 @@
 mod figures;
 mod quick;
 
-pub use figures::{Figures, Url, url_of};
-pub use quick::{QuickLine, read_line_into};
+pub use figures::{Figures, url_of};
+pub use quick::read_line_into;

@@ -5,13 +5,12 @@ use mathlib.Core.List.{List}
 use Prim.Native.Nat.{ℕ, ◌+◌, ◌<◌, ◌≤◌, zero-le}
 use native.Mathlib.Omega.{arith}
 use lib.ListN.{length}
+use Rattle.cursor.proofs.Laws.{scan}
 use Rattle.text.proofs.Laws.{skip_on}
-use Rattle.text.proofs.Places.{places}
 use Rattle.text.proofs.Reach.{skip_from}
 use Rattle.text.specs.Class.{is_alnum, is_name_byte, is_space}
 use Rattle.text.specs.Scan.{skip, byte_at}
-use Rattle.spans.proofs.Items.{items}
-use Rattle.spans.proofs.Kept.{kept, list_few}
+use Rattle.spans.proofs.Kept.{list_few}
 use Prim.Native.Char.{code}
 use lib.Dec.{eqb}
 use Rattle.refusal.specs.Answer.{Answer, good}
@@ -29,8 +28,6 @@ extra_some s at stop r h test hit told =
     let start : is_alnum (byte_at s at) ≡ true = sym test ∙ hit in
     let name : is_name_byte (byte_at s at) ≡ true = rw start in
     rw told (omega (arith, skip_on is_name_byte s at 0 h name, skip_from is_name_byte s (at + 1)))
-
-pub ruleset extra = (extra_some, places, items)
 
 -- by whether a bracket stands there
 module _ (s : List ℕ) (at : ℕ) (r : Bool) (test : r ≡ eqb (byte_at s at) (code "[")) where
@@ -66,4 +63,4 @@ extras_few s at = go (eqb (byte_at s at) (code "["))
     go true = list_few ExtrasMany (item_at s at) max_list true (skip is_space s (at + 1))
     go false = zero-le
 
-pub ruleset listing = (here_answer, here_array, none_answer, none_array, kept, extra)
+pub ruleset listing = (here_answer, here_array, none_answer, none_array, scan)

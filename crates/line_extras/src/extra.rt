@@ -9,38 +9,39 @@ use spans::Item;
 fn may_follow(b: u8) -> bool
     ensures { result ≡ may_follow b }
 {
-    (b == b',') | (b == b']') | text::is_space(b)
+    matches!(b, b',' | b']') || text::is_space(b)
 }
 
 fn stranger_at(line: &[u8], at: usize) -> bool
     ensures { result ≡ stranger_at line.now at }
 {
-    (at < line.len()) & !may_follow(text::byte_at(line, at))
+    at < line.len() && !may_follow(line[at])
 }
 
-fn ended_at(line: &[u8], start: usize, stop: usize) -> Item
+fn ended_at(line: &[u8], start: usize, stop: usize) -> Result<Item, Refusal>
     requires { start < stop }
     ensures { result ≡ ended_at line.now start stop }
 {
     if text::separator_before(line, stop) {
-        return Item::Refused(Refusal::new(Fault::ExtraEnd, stop - 1, 1));
+        return Err(Refusal::new(Fault::ExtraEnd, stop - 1, 1));
     }
     let to = Cursor { at: stop };
     let extra = Cursor { at: start }.span_to(to);
-    Item::One(extra, to.skip_whitespace(line))
+    Ok(Item::One(extra, to.skip_whitespace(line)))
 }
 
-fn extra_to(line: &[u8], start: usize, stop: usize) -> Item
+fn extra_to(line: &[u8], start: usize, stop: usize) -> Result<Item, Refusal>
     requires { start < stop }
     ensures { result ≡ extra_to line.now start stop }
 {
     if stranger_at(line, stop) {
-        return Item::Refused(Refusal::new(Fault::ExtraAfter, stop, 1));
+        return Err(Refusal::new(Fault::ExtraAfter, stop, 1));
     }
     ended_at(line, start, stop)
 }
 
-fn extra_at(line: &[u8], at: usize) -> Item
+#[tactic(auto, using(crate::proofs::Laws::extra_some))]
+fn extra_at(line: &[u8], at: usize) -> Result<Item, Refusal>
     requires { at < length line.now }
     ensures { result ≡ extra_at line.now at }
 {
@@ -48,29 +49,29 @@ fn extra_at(line: &[u8], at: usize) -> Item
         let stop = Cursor { at }.take_name(line).at;
         return extra_to(line, at, stop);
     }
-    Item::Refused(Refusal::new(Fault::ExtraStart, at, 1))
+    Err(Refusal::new(Fault::ExtraStart, at, 1))
 }
 
-fn first_at(line: &[u8], at: usize) -> Item
+fn first_at(line: &[u8], at: usize) -> Result<Item, Refusal>
     requires { at < length line.now }
     ensures { result ≡ first_at line.now at }
 {
     if text::has(line, at, b',') {
-        return Item::Refused(Refusal::new(Fault::ExtrasComma, at, 1));
+        return Err(Refusal::new(Fault::ExtrasComma, at, 1));
     }
     extra_at(line, at)
 }
 
-fn after_comma(line: &[u8], bracket: usize, at: usize) -> Item
+fn after_comma(line: &[u8], bracket: usize, at: usize) -> Result<Item, Refusal>
     ensures { result ≡ or_open line.now bracket at (extra_at line.now at) }
 {
     if at < line.len() {
         return extra_at(line, at);
     }
-    Item::Refused(Refusal::new(Fault::ExtrasOpen, bracket, 1))
+    Err(Refusal::new(Fault::ExtrasOpen, bracket, 1))
 }
 
-fn later_at(line: &[u8], bracket: usize, at: usize) -> Item
+fn later_at(line: &[u8], bracket: usize, at: usize) -> Result<Item, Refusal>
     requires { at < length line.now }
     ensures { result ≡ later_at line.now bracket at }
 {
@@ -78,15 +79,15 @@ fn later_at(line: &[u8], bracket: usize, at: usize) -> Item
         let past = Cursor { at: at + 1 }.skip_whitespace(line).at;
         return after_comma(line, bracket, past);
     }
-    Item::Refused(Refusal::new(Fault::ExtraJoin, at, 1))
+    Err(Refusal::new(Fault::ExtraJoin, at, 1))
 }
 
-fn inside_at(line: &[u8], bracket: usize, fresh: bool, at: usize) -> Item
+fn inside_at(line: &[u8], bracket: usize, fresh: bool, at: usize) -> Result<Item, Refusal>
     requires { at < length line.now }
     ensures { result ≡ inside_at line.now bracket fresh at }
 {
     if text::has(line, at, b']') {
-        return Item::End(Cursor { at: at + 1 });
+        return Ok(Item::End(Cursor { at: at + 1 }));
     }
     if fresh {
         return first_at(line, at);
@@ -94,11 +95,12 @@ fn inside_at(line: &[u8], bracket: usize, fresh: bool, at: usize) -> Item
     later_at(line, bracket, at)
 }
 
-pub fn item_at(line: &[u8], bracket: usize, fresh: bool, at: usize) -> Item
+#[tactic(auto, unfolding(crate::specs::Extra::item_at))]
+pub fn item_at(line: &[u8], bracket: usize, fresh: bool, at: usize) -> Result<Item, Refusal>
     ensures { result ≡ item_at line.now bracket fresh at }
 {
     if at < line.len() {
         return inside_at(line, bracket, fresh, at);
     }
-    Item::Refused(Refusal::new(Fault::ExtrasOpen, bracket, 1))
+    Err(Refusal::new(Fault::ExtrasOpen, bracket, 1))
 }

@@ -6,9 +6,11 @@ use Prim.Native.Nat.{ℕ, ◌+◌, ◌≤◌, zero-le}
 use Prim.Native.Char.{code}
 use lib.Dec.{eqb}
 use lib.ListN.{length}
+use Rattle.std.specs.Prelude.{Option}
 use Rattle.refusal.specs.Answer.{Answer, good, refused, on_good, and_then}
 use Rattle.text.specs.Class.{is_space}
 use Rattle.text.specs.Scan.{skip, byte_at}
+use Rattle.cursor.specs.declared.cursor.Cursor.{Cursor}
 use Rattle.refusal.specs.declared.place.Span.{Span}
 use Rattle.spans.specs.Listing.{Listing, spans_in, outcome, counted}
 use Rattle.line_extras.proofs.Laws.{extras_few}
@@ -20,7 +22,6 @@ use Rattle.line_url.specs.Url.{url_at}
 use Rattle.line_head.proofs.Within.{On, on_then}
 use Rattle.line_head.specs.Head.{behind, tail_at, by_url, by_list, wanted_at, texts_at, text_count, head_of, from_tail, from_wanted, from_extras, head, texts_from, extras_of, texts_of}
 use Rattle.line_head.specs.declared.part.Head.{Head}
-use Rattle.line_head.specs.declared.part.Tail.{Tail}
 use Rattle.line_head.specs.declared.part.Wanted.{Wanted}
 use Rattle.cursor.specs.Limits.{max_list}
 
@@ -60,7 +61,7 @@ module _ (s : List ℕ) where
       on_then (Asks texts) (Counts extras texts) (wanted_at s (skip is_space s at)) _ (wanted_asks s (skip is_space s at))
       (λ w p. all w.0 (tail_at s (skip is_space s w.1)) p)
     where
-      all : (wanted : Wanted) (a : Answer Tail) → text_count wanted ≡ length (texts_at s (skip is_space s at)) → On (Counts extras (texts_at s (skip is_space s at))) (on_good (λ tail. head_of name (length extras) wanted tail) a)
+      all : (wanted : Wanted) (a : Answer (Option Cursor)) → text_count wanted ≡ length (texts_at s (skip is_space s at)) → On (Counts extras (texts_at s (skip is_space s at))) (on_good (λ tail. head_of name (length extras) wanted tail) a)
       all wanted (good tail) p = record { named = refl; asked = p }
       all wanted (refused number start len) p = tt
 

@@ -2,6 +2,7 @@
 use mathlib.Core.List.{List, [], ◌∷◌, map}
 use mathlib.Core.Path.{◌≡◌, refl}
 use Prim.Native.Nat.{ℕ}
+use Rattle.std.specs.Prelude.{Some, None}
 use Rattle.refusal.specs.Answer.{Answer, good, refused}
 use Rattle.cursor.specs.Cursor.{cursor}
 use Rattle.refusal.specs.Refusal.{span, given}
@@ -24,24 +25,23 @@ use Rattle.version_operator.specs.Operator.{operator_among}
 use Rattle.version.specs.Rules.{goes_with, is_specifier}
 use Rattle.line_head.specs.Head.{tail_at, wanted_at, texts_at, head_of, from_tail, from_wanted, from_extras, head, texts_from, extras_of, texts_of}
 use Rattle.line_head.specs.declared.part.Head.{Head}
-use Rattle.line_head.specs.declared.part.Tail.TheVariants.{End, Marker}
 use Rattle.line_head.specs.declared.part.Wanted.TheVariants.{Specifiers, Url}
 
 -- a line, and its parts before the marker
 abbrev pub table : List (List ℕ × Answer Head)
 table =
-    (bytes "A", good (head_of (span 0 1) 0 (Specifiers 0) End))
-    ∷ (bytes "A.B-C_D", good (head_of (span 0 7) 0 (Specifiers 0) End))
-    ∷ (bytes "name<=1", good (head_of (span 0 4) 0 (Specifiers 1) End))
-    ∷ (bytes "name>=3,<2", good (head_of (span 0 4) 0 (Specifiers 2) End))
-    ∷ (bytes " name ( >=3 , <2 ) ", good (head_of (span 1 4) 0 (Specifiers 2) End))
-    ∷ (bytes "name@http://foo.com", good (head_of (span 0 4) 0 (Url (span 5 14)) End))
-    ∷ (bytes "name [fred,bar] @ http://foo.com ; python_version=='2.7'", good (head_of (span 0 4) 2 (Url (span 18 14)) (Marker (cursor 34))))
-    ∷ (bytes "name[quux, strange];python_version<'2.7' and platform_version=='2'", good (head_of (span 0 4) 2 (Specifiers 0) (Marker (cursor 20))))
-    ∷ (bytes "name; os_name=='a' or os_name=='b'", good (head_of (span 0 4) 0 (Specifiers 0) (Marker (cursor 5))))
-    ∷ (bytes "a [] >=1 ;", good (head_of (span 0 1) 0 (Specifiers 1) (Marker (cursor 10))))
-    ∷ (bytes "a @ ;", good (head_of (span 0 1) 0 (Url (span 4 1)) End))
-    ∷ (bytes "a @ x;os_name=='a'", good (head_of (span 0 1) 0 (Url (span 4 14)) End))
+    (bytes "A", good (head_of (span 0 1) 0 (Specifiers 0) None))
+    ∷ (bytes "A.B-C_D", good (head_of (span 0 7) 0 (Specifiers 0) None))
+    ∷ (bytes "name<=1", good (head_of (span 0 4) 0 (Specifiers 1) None))
+    ∷ (bytes "name>=3,<2", good (head_of (span 0 4) 0 (Specifiers 2) None))
+    ∷ (bytes " name ( >=3 , <2 ) ", good (head_of (span 1 4) 0 (Specifiers 2) None))
+    ∷ (bytes "name@http://foo.com", good (head_of (span 0 4) 0 (Url (span 5 14)) None))
+    ∷ (bytes "name [fred,bar] @ http://foo.com ; python_version=='2.7'", good (head_of (span 0 4) 2 (Url (span 18 14)) (Some (cursor 34))))
+    ∷ (bytes "name[quux, strange];python_version<'2.7' and platform_version=='2'", good (head_of (span 0 4) 2 (Specifiers 0) (Some (cursor 20))))
+    ∷ (bytes "name; os_name=='a' or os_name=='b'", good (head_of (span 0 4) 0 (Specifiers 0) (Some (cursor 5))))
+    ∷ (bytes "a [] >=1 ;", good (head_of (span 0 1) 0 (Specifiers 1) (Some (cursor 10))))
+    ∷ (bytes "a @ ;", good (head_of (span 0 1) 0 (Url (span 4 1)) None))
+    ∷ (bytes "a @ x;os_name=='a'", good (head_of (span 0 1) 0 (Url (span 4 14)) None))
     ∷ (bytes "a @ http://x; os_name=='a'", refused 17 14 1)
     ∷ (bytes "a @ x #y", refused 17 6 1)
     ∷ (bytes "a b", refused 17 2 1)

@@ -1,13 +1,10 @@
 -- The contract in document 01's terms leaves one answer. Assumes nothing.
-use mathlib.Core.Path.{◌≡◌, ap}
-use Rattle.refusal.proofs.Numbers.{given_own}
-use Rattle.refusal.specs.Refusal.{given}
-use Rattle.line_head.specs.Head.{told}
-use Rattle.line_head.specs.declared.part.HeadRead.{HeadRead}
-use Rattle.line_head.specs.declared.part.HeadRead.TheVariants.{Read, Refused}
+use mathlib.Core.Path.{◌≡◌}
+use Rattle.std.specs.Prelude.{Result}
+use Rattle.refusal.proofs.Numbers as Numbers
+use Rattle.refusal.specs.Refusal.{told}
+use Rattle.refusal.specs.declared.fault.Refusal.{Refusal}
+use Rattle.line_head.specs.declared.part.Head.{Head}
 
-pub told_own : (v w : HeadRead) → told v ≡ told w → v ≡ w
-told_own (Read h) (Read k) e = let p : h ≡ k = cc in ap Read p
-told_own (Read h) (Refused w) e = unfold given in cc
-told_own (Refused v) (Read k) e = unfold given in cc
-told_own (Refused v) (Refused w) e = ap Refused (given_own v w e)
+pub told_own : (v w : Result Head Refusal) → told v ≡ told w → v ≡ w
+told_own = Numbers.told_own

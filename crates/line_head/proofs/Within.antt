@@ -8,26 +8,26 @@ use native.Mathlib.Omega.{arith}
 use borrow.Author.Tests.{ltb-true, eqb-true}
 use lib.Dec.{ltb, eqb}
 use lib.ListN.{length}
+use Rattle.std.specs.Prelude.{Option, Some, None}
 use Rattle.refusal.specs.Answer.{Answer, good, refused, on_good, and_then}
 use Rattle.text.specs.Class.{is_space}
 use Rattle.cursor.specs.Cursor.{cursor}
+use Rattle.cursor.specs.declared.cursor.Cursor.{Cursor}
 use Rattle.text.specs.Scan.{skip, byte_at}
 use Rattle.spans.specs.Listing.{counted}
 use Rattle.line_extras.specs.Extras.{extras_at}
 use Rattle.line_name.specs.Name.{name_at}
 use Rattle.line_head.specs.Head.{tail_at, wanted_at, head_of, from_tail, from_wanted, from_extras, head}
 use Rattle.line_head.specs.declared.part.Head.{Head}
-use Rattle.line_head.specs.declared.part.Tail.{Tail}
-use Rattle.line_head.specs.declared.part.Tail.TheVariants.{End, Marker}
 
 -- where a marker starts
 pub record Starts (s : List ℕ) (at : ℕ) : Type 0 where
   pub within : at ≤ length s
   pub behind : byte_at s (at - 1) ≡ code ";"
 
-abbrev pub StartsIn : List ℕ → Tail → Type 0
-StartsIn s End = Unit {0}
-StartsIn s (Marker c) = Starts s c.at
+abbrev pub StartsIn : List ℕ → Option Cursor → Type 0
+StartsIn s None = Unit {0}
+StartsIn s (Some c) = Starts s c.at
 
 -- a fact of what an answer holds
 abbrev pub On : {A : Type 0} → (A → Type 0) → Answer A → Type 0
@@ -54,7 +54,7 @@ tail_starts : (s : List ℕ) (at : ℕ) → On (StartsIn s) (tail_at s at)
 unfolding tail_at
 tail_starts s at = go (ltb at (length s)) (eqb (byte_at s at) (code ";")) refl refl
   where
-    go : (t u : Bool) → ltb at (length s) ≡ t → eqb (byte_at s at) (code ";") ≡ u → On (StartsIn s) (cond t (cond u (good (Marker (cursor (at + 1)))) (refused 17 at 1)) (good End))
+    go : (t u : Bool) → ltb at (length s) ≡ t → eqb (byte_at s at) (code ";") ≡ u → On (StartsIn s) (cond t (cond u (good (Some (cursor (at + 1)))) (refused 17 at 1)) (good None))
     go true true p q =
         let l = ltb-true at (length s) p in
         let b : at + 1 - 1 ≡ at = omega arith in
@@ -63,7 +63,7 @@ tail_starts s at = go (ltb at (length s)) (eqb (byte_at s at) (code ";")) refl r
     go false u p q = tt
 
 abbrev HeadStarts : List ℕ → Head → Type 0
-HeadStarts s h = StartsIn s h.tail
+HeadStarts s h = StartsIn s h.marker
 
 pub marker_starts : (s : List ℕ) → On (HeadStarts s) (head s)
 unfolding head from_extras from_wanted from_tail

@@ -1,10 +1,10 @@
 -- The parts of a line before its marker, in their order.
-use Rattle.std.specs.Prelude.{ℕ, ◌+◌, cond, List, [], ltb, eqb, length}
+use Rattle.std.specs.Prelude.{ℕ, ◌+◌, cond, List, [], ltb, eqb, length, Option, Some, None}
 use Prim.Native.Char.{code}
 use Rattle.refusal.specs.Answer.{Answer, good, refused, and_then, on_good}
 use Rattle.text.specs.Class.{is_space}
 use Rattle.cursor.specs.Cursor.{cursor}
-use Rattle.refusal.specs.Refusal.{given}
+use Rattle.cursor.specs.declared.cursor.Cursor.{Cursor}
 use Rattle.text.specs.Scan.{skip, byte_at}
 use Rattle.refusal.specs.declared.place.Span.{Span}
 use Rattle.spans.specs.Listing.{spans_in, counted}
@@ -13,11 +13,7 @@ use Rattle.line_name.specs.Name.{name_at}
 use Rattle.line_specifiers.specs.Specifiers.{specifiers_at}
 use Rattle.line_url.specs.Url.{url_at}
 use Rattle.line_head.specs.declared.part.Head.{Head}
-use Rattle.line_head.specs.declared.part.HeadRead.{HeadRead}
-use Rattle.line_head.specs.declared.part.Tail.{Tail}
-use Rattle.line_head.specs.declared.part.TailRead.{TailRead}
 use Rattle.line_head.specs.declared.part.Wanted.{Wanted}
-use Rattle.line_head.specs.declared.part.WantedRead.{WantedRead}
 
 -- what was read behind a part, nothing where it was refused
 abbrev pub behind : {A : Type 0} → Answer A → (A → List Span) → List Span
@@ -25,11 +21,11 @@ behind (good a) next = next a
 behind (refused number start len) next = []
 
 -- "then `;` and marker, or the end; else 17"; "17: line goes on after its last part: byte, 1"
-unfoldable pub tail_at : List ℕ → ℕ → Answer Tail
+unfoldable pub tail_at : List ℕ → ℕ → Answer (Option Cursor)
 tail_at s at =
     cond (ltb at (length s))
-    (cond (eqb (byte_at s at) (code ";")) (good (Tail.Marker (cursor (at + 1)))) (refused 17 at 1))
-    (good Tail.End)
+    (cond (eqb (byte_at s at) (code ";")) (good (Some (cursor (at + 1)))) (refused 17 at 1))
+    (good None)
 
 -- how many specifiers
 abbrev pub text_count : Wanted → ℕ
@@ -55,8 +51,8 @@ unfoldable pub texts_at : List ℕ → ℕ → List Span
 texts_at s at = let texts = spans_in (specifiers_at s at) in cond (eqb (byte_at s at) (code "@")) [] texts
 
 -- "Whitespace, name, whitespace, extras, whitespace. Then .. Then whitespace, then `;` and marker, or the end": from the end back to the start
-abbrev pub head_of : Span → ℕ → Wanted → Tail → Head
-head_of name extras wanted tail = record { name = name; extras = extras; wanted = wanted; tail = tail }
+abbrev pub head_of : Span → ℕ → Wanted → Option Cursor → Head
+head_of name extras wanted tail = record { name = name; extras = extras; wanted = wanted; marker = tail }
 
 unfoldable pub from_tail : List ℕ → Span → ℕ → Wanted → ℕ → Answer Head
 from_tail s name extras wanted at = on_good (λ tail. head_of name extras wanted tail) (tail_at s (skip is_space s at))
@@ -85,15 +81,3 @@ extras_of s = behind (name_at s) (λ n. extras_behind s n.1)
 
 unfoldable pub texts_of : List ℕ → List Span
 texts_of s = behind (name_at s) (λ n. texts_from s n.1)
-
-abbrev pub told_tail : TailRead → Answer Tail
-told_tail (TailRead.Read tail) = good tail
-told_tail (TailRead.Refused why) = given why
-
-abbrev pub told_wanted : WantedRead → Answer (Wanted × ℕ)
-told_wanted (WantedRead.Read wanted next) = good (wanted, next.at)
-told_wanted (WantedRead.Refused why) = given why
-
-abbrev pub told : HeadRead → Answer Head
-told (HeadRead.Read h) = good h
-told (HeadRead.Refused why) = given why

@@ -5,4 +5,4 @@ mod head;
 mod part;
 
 pub use head::head_of;
-pub use part::{Head, HeadRead, Tail, Wanted, text_count};
+pub use part::{Head, Wanted, text_count};

@@ -1,8 +1,7 @@
 -- What a line says under an assignment: what its marker says, with ignored comparisons and emptied groups dropped.
-use Rattle.std.specs.Prelude.{ℕ, Bool, true, List}
+use Rattle.std.specs.Prelude.{ℕ, Bool, true, List, Option, Some, None}
+use Rattle.cursor.specs.declared.cursor.Cursor.{Cursor}
 use Rattle.line_head.specs.Head.{head}
-use Rattle.line_head.specs.declared.part.Tail.{Tail}
-use Rattle.line_head.specs.declared.part.Tail.TheVariants.{End, Marker}
 use Rattle.marker_laws.specs.Value.{Left, none, left, value_of}
 use Rattle.marker_steps.specs.Grammar.{Tree, Parsed, got, fault, parse_from}
 use Rattle.refusal.specs.Answer.{Answer, good, and_then}
@@ -14,12 +13,12 @@ tree_in (got t e) = good (left t)
 tree_in (fault why) = given why
 
 -- "then `;` and marker, or the end": none where the line ends
-abbrev pub tail_tree : List ℕ → Tail → Answer (Left Tree)
-tail_tree s End = good none
-tail_tree s (Marker from) = tree_in (parse_from s from.at)
+abbrev pub tail_tree : List ℕ → Option Cursor → Answer (Left Tree)
+tail_tree s None = good none
+tail_tree s (Some from) = tree_in (parse_from s from.at)
 
 abbrev pub line_tree : List ℕ → Answer (Left Tree)
-line_tree s = and_then (head s) (λ h. tail_tree s h.tail)
+line_tree s = and_then (head s) (λ h. tail_tree s h.marker)
 
 -- what a line says where comparison k is `env k`; "A line without marker has the program 66": yes
 abbrev pub line_value : (ℕ → Bool) → Left Tree → Bool

@@ -2,11 +2,9 @@
 use Rattle.std.specs.Prelude.{ℕ, ◌-◌, cond, List, ltb, length}
 use Rattle.refusal.specs.Answer.{Answer, good, refused}
 use Rattle.text.specs.Class.{is_space, is_alnum, is_separator, is_name_byte}
-use Rattle.refusal.specs.Refusal.{span, given}
+use Rattle.refusal.specs.Refusal.{span}
 use Rattle.text.specs.Scan.{skip, byte_at}
 use Rattle.refusal.specs.declared.place.Span.{Span}
-use Rattle.line_name.specs.declared.Named.{Named}
-use Rattle.line_name.specs.declared.Named.TheVariants.{Read, Refused}
 
 -- "5: name ends in `.` `-` `_`: that byte, 1"; else the name, and the place behind it
 abbrev pub name_to : List ℕ → ℕ → ℕ → Answer (Span × ℕ)
@@ -19,7 +17,3 @@ name_from s start = cond (is_alnum (byte_at s start)) (name_to s start (skip is_
 -- "Whitespace, name, .."; "3: no name before the end: 0, 1"
 unfoldable pub name_at : List ℕ → Answer (Span × ℕ)
 name_at s = let start = skip is_space s 0 in cond (ltb start (length s)) (name_from s start) (refused 3 0 1)
-
-abbrev pub told : Named → Answer (Span × ℕ)
-told (Read name next) = good (name, next.at)
-told (Refused why) = given why

@@ -2,35 +2,25 @@
 use mathlib.Core.Path.{◌≡◌, refl, sym, ap, ◌∙◌}
 use mathlib.Core.Bool.{Bool, true, false, cond}
 use mathlib.Core.List.{List}
-use Prim.Native.Nat.{ℕ, ◌+◌, ◌-◌, ◌≤◌, ◌<◌, zero-le}
+use Prim.Native.Nat.{ℕ, ◌+◌, ◌≤◌, zero-le}
 use Prim.Native.Char.{code}
 use native.Mathlib.Omega.{arith}
-use borrow.Author.Tests.{lt-ltb}
 use lib.Dec.{eqb}
-use lib.ListN.{length, take, drop}
+use lib.ListN.{length}
 use Rattle.arrays.specs.Front.{onto}
+use Rattle.cursor.proofs.Laws.{scan}
 use Rattle.text.proofs.Places.{places, byte_lt}
 use Rattle.text.proofs.Reach.{skip_from, skip_within}
 use Rattle.refusal.specs.Answer.{Answer, good}
 use Rattle.text.specs.Class.{is_space, is_operator_byte, is_bare_byte, is_enclosed_byte}
-use Rattle.refusal.specs.Refusal.{span, refusal}
 use Rattle.text.specs.Scan.{skip, byte_at}
-use Rattle.cursor.specs.declared.cursor.Cursor.{Cursor}
-use Rattle.refusal.specs.declared.fault.Fault.TheVariants.{VersionBad, SpecifiersMany}
-use Rattle.refusal.specs.declared.fault.Refusal.{Refusal}
-use Rattle.refusal.specs.declared.place.Span.{Span}
-use Rattle.spans.proofs.Items.{items, one_is, refused_is}
-use Rattle.spans.proofs.Kept.{kept, list_few}
+use Rattle.refusal.specs.declared.fault.Fault.TheVariants.{SpecifiersMany}
+use Rattle.spans.proofs.Kept.{list_few}
 use Rattle.spans.specs.Flat.{flat, spans_onto}
 use Rattle.cursor.specs.Limits.{max_list}
 use Rattle.spans.specs.Listing.{Listing, ends, spans_in, outcome, counted}
-use Rattle.spans.specs.declared.item.Item.{Item}
-use Rattle.spans.specs.declared.item.Item.TheVariants.{One, Refused}
-use Rattle.version.specs.Rules.{is_specifier}
-use Rattle.line_specifiers.proofs.Within.{text_next}
-use Rattle.line_specifiers.specs.Specifier.{text_to, enclosed_at, text_at, item_at}
+use Rattle.line_specifiers.specs.Specifier.{item_at}
 use Rattle.line_specifiers.specs.Specifiers.{texts_from, bare_at, specifiers_at}
-use Rattle.line_specifiers.specs.declared.specifier.Form.{Form}
 use Rattle.line_specifiers.specs.declared.specifier.Form.TheVariants.{Bare, Enclosed}
 
 -- a text ends within the line, and not before its start
@@ -54,32 +44,6 @@ module _ (s : List ℕ) (at b : ℕ) (r : Bool) (test : r ≡ eqb (byte_at s at)
 
 pub operator_within : (s : List ℕ) (at b : ℕ) (r : Bool) → b ≡ byte_at s at → r ≡ is_operator_byte b → r ≡ true → at ≤ length s
 operator_within s at b r e test hit = omega (arith, byte_lt s at is_operator_byte refl (rw (← e) (sym test ∙ hit)))
-
--- the judgement of a text
-module _ (s : List ℕ) (from stop : ℕ) (r : Bool) (test : r ≡ is_specifier (take (stop - from) (drop from s))) where
-  pub text_good : (x : Span) (next : Cursor) → r ≡ true → x ≡ span from (stop - from) → next.at ≡ stop → One x next ≡ text_to s from stop
-  unfolding text_to
-  text_good x next h e f = rw (← test, h) (one_is x (span from (stop - from)) next stop e f)
-
-  pub text_bad : (why : Refusal) → r ≡ false → why ≡ refusal VersionBad from (stop - from) → Refused why ≡ text_to s from stop
-  unfolding text_to
-  text_bad why h made = rw (← test, h) (refused_is why VersionBad from from (stop - from) (stop - from) made refl refl)
-
--- a text by where it ends
-module _ (s : List ℕ) (from stop : ℕ) (i : Item) where
-  pub text_bare : stop ≡ skip is_bare_byte s from → i ≡ text_to s from stop → i ≡ text_at s Bare from
-  text_bare e f = rw (← e) f
-
-  pub text_closed : (bracket : ℕ) → stop ≡ skip is_enclosed_byte s from → stop < length s → i ≡ text_to s from stop → i ≡ enclosed_at s bracket from
-  text_closed bracket e h f = rw (← e, lt-ltb stop (length s)) f
-
--- by the form
-module _ (s : List ℕ) (form : Form) (from : ℕ) (i : Item) where
-  pub form_bare : form ≡ Bare → i ≡ text_at s Bare from → i ≡ text_at s form from
-  form_bare e f = rw e f
-
-  pub form_enclosed : (bracket : ℕ) → form ≡ Enclosed bracket → i ≡ text_at s (Enclosed bracket) from → i ≡ text_at s form from
-  form_enclosed bracket e f = rw e f
 
 pub specifiers_few : (s : List ℕ) (at : ℕ) → length (spans_in (specifiers_at s at)) ≤ max_list
 unfolding specifiers_at bare_at spans_in
@@ -139,6 +103,6 @@ module _ (s : List ℕ) (at : ℕ) where
     pub other_array : (list old : List ℕ) → r ≡ false → list ≡ spans_onto (spans_in (bare_at s at)) old → list ≡ spans_onto (spans_in (specifiers_at s at)) old
     other_array list old h e = e ∙ ap (λ (x : Listing). spans_onto (spans_in x) old) (other_is h)
 
-pub ruleset texts = (bare_from, bare_within, enclosed_from, next_within, spaces_within, operator_within, text_good, text_bad, text_bare, text_closed, form_bare, form_enclosed, places, items)
+pub ruleset texts = (bare_from, bare_within, enclosed_from, next_within, spaces_within, operator_within, places, scan)
 
-pub ruleset listing = (bare_answer, bare_array, none_answer, none_array, enclosed_answer, enclosed_array, other_answer, other_array, text_next, kept, texts)
+pub ruleset listing = (bare_answer, bare_array, none_answer, none_array, enclosed_answer, enclosed_array, other_answer, other_array, texts)

@@ -7,12 +7,14 @@ use Prim.Native.Char.{code}
 use native.Mathlib.Omega.{arith}
 use lib.Dec.{ltb, eqb}
 use lib.ListN.{length, take, drop}
+use Rattle.std.specs.Prelude.{Result, Ok}
 use Rattle.text.proofs.Places.{byte_lt}
 use Rattle.text.proofs.Reach.{skip_from, skip_within}
 use Rattle.text.specs.Class.{is_space, is_operator_byte, is_bare_byte, is_enclosed_byte}
 use Rattle.text.specs.Scan.{skip, byte_at}
 use Rattle.cursor.specs.declared.cursor.Cursor.{Cursor}
 use Rattle.refusal.specs.declared.fault.Fault.TheVariants.{SpecifiersMany}
+use Rattle.refusal.specs.declared.fault.Refusal.{Refusal}
 use Rattle.refusal.specs.declared.place.Span.{Span}
 use Rattle.spans.proofs.Within.{Between, Leaves, Ends, leaves_if, ends_at, ends_from, ends_if, list_ends}
 use Rattle.spans.specs.declared.item.Item.{Item}
@@ -70,9 +72,8 @@ module _ (s : List ℕ) where
       (texts_end (Enclosed at) from (skip_within is_space s (at + 1) (omega arith))))
       (λ _. bare_end at h)
 
--- so the loop stays within the line
-pub text_next : (s : List ℕ) (form : Form) (fresh : Bool) (at : ℕ) (i : Item) (x : Span) (next : Cursor) → at ≤ length s → i ≡ item_at s form fresh at → i ≡ One x next → next.at ≤ length s
-text_next s form fresh at i x next h told e =
-    let b : Leaves at (length s) i = rw told (item_leaves s form fresh at h) in
-    let c : Between at (length s) next.at = rw e at b in
-    c.to
+-- so the reading stays within the line
+pub text_next : (s : List ℕ) (form : Form) (fresh : Bool) (at : ℕ) (x : Span) (next : Cursor) → at ≤ length s → ◌≡◌ {A = Result Item Refusal} (Ok (One x next)) (item_at s form fresh at) → next.at ≤ length s
+text_next s form fresh at x next h made =
+    let b : Between at (length s) next.at = rw (← made) at (item_leaves s form fresh at h) in
+    b.to

@@ -8,7 +8,8 @@ use refusal::{Fault, Refusal};
 use spans::Item;
 use version::is_specifier;
 
-#[derive(Clone, Copy)]
+// Two forms by name, and no Option of a place: the definitions of specs/Specifier (`text_at`, `item_at`) take the form.
+#[derive(Clone, Copy, Debug, PartialEq, Eq)]
 pub enum Form {
     // Up to `;` or the end.
     Bare,
@@ -16,18 +17,19 @@ pub enum Form {
     Enclosed(usize),
 }
 
-fn text_to(line: &[u8], from: usize, stop: usize) -> Item
+#[tactic(auto, unfolding(crate::specs::Specifier::text_to))]
+fn text_to(line: &[u8], from: usize, stop: usize) -> Result<Item, Refusal>
     requires { (from ≤ stop) × (stop ≤ length line.now) }
     ensures { result ≡ text_to line.now from stop }
 {
     if is_specifier(&line[from..stop]) {
         let to = Cursor { at: stop };
-        return Item::One(Cursor { at: from }.span_to(to), to);
+        return Ok(Item::One(Cursor { at: from }.span_to(to), to));
     }
-    Item::Refused(Refusal::new(Fault::VersionBad, from, stop - from))
+    Err(Refusal::new(Fault::VersionBad, from, stop - from))
 }
 
-fn enclosed_at(line: &[u8], bracket: usize, from: usize) -> Item
+fn enclosed_at(line: &[u8], bracket: usize, from: usize) -> Result<Item, Refusal>
     requires { from ≤ length line.now }
     ensures { result ≡ enclosed_at line.now bracket from }
 {
@@ -35,10 +37,10 @@ fn enclosed_at(line: &[u8], bracket: usize, from: usize) -> Item
     if stop < line.len() {
         return text_to(line, from, stop);
     }
-    Item::Refused(Refusal::new(Fault::SpecifiersOpen, bracket, 1))
+    Err(Refusal::new(Fault::SpecifiersOpen, bracket, 1))
 }
 
-fn bare_at(line: &[u8], from: usize) -> Item
+fn bare_at(line: &[u8], from: usize) -> Result<Item, Refusal>
     requires { from ≤ length line.now }
     ensures { result ≡ text_at line.now Bare from }
 {
@@ -46,7 +48,7 @@ fn bare_at(line: &[u8], from: usize) -> Item
     text_to(line, from, stop)
 }
 
-fn text_at(line: &[u8], form: Form, from: usize) -> Item
+fn text_at(line: &[u8], form: Form, from: usize) -> Result<Item, Refusal>
     requires { from ≤ length line.now }
     ensures { result ≡ text_at line.now form from }
 {
@@ -57,16 +59,16 @@ fn text_at(line: &[u8], form: Form, from: usize) -> Item
 }
 
 // The list's end: a `)` is passed.
-fn last_at(line: &[u8], at: usize) -> Item
+fn last_at(line: &[u8], at: usize) -> Result<Item, Refusal>
     ensures { result ≡ last_at line.now at }
 {
     if text::has(line, at, b')') {
-        return Item::End(Cursor { at: at + 1 });
+        return Ok(Item::End(Cursor { at: at + 1 }));
     }
-    Item::End(Cursor { at })
+    Ok(Item::End(Cursor { at }))
 }
 
-fn later_at(line: &[u8], form: Form, at: usize) -> Item
+fn later_at(line: &[u8], form: Form, at: usize) -> Result<Item, Refusal>
     ensures { result ≡ later_at line.now form at }
 {
     if text::has(line, at, b',') {
@@ -75,7 +77,8 @@ fn later_at(line: &[u8], form: Form, at: usize) -> Item
     last_at(line, at)
 }
 
-pub fn item_at(line: &[u8], form: Form, fresh: bool, at: usize) -> Item
+#[tactic(auto, unfolding(crate::specs::Specifier::item_at))]
+pub fn item_at(line: &[u8], form: Form, fresh: bool, at: usize) -> Result<Item, Refusal>
     requires { at ≤ length line.now }
     ensures { result ≡ item_at line.now form fresh at }
 {

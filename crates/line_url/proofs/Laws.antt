@@ -161,20 +161,6 @@ module _ (s : List ℕ) (at e : ℕ) (inv : url_end s at ≡ e) (stop : ℕ) (wo
         url_less =
             omega (arith, past_within, skip_from is_word_byte s at, skip_on is_space s stop 0 stop_within (stop_space stop_within), skip_from is_space s (stop + 1))
 
--- where reading goes on
-module _ (s : List ℕ) (end : ℕ) (r : Bool) (test : r ≡ marked_at s end) where
-  pub on_mark : r ≡ true → end ≡ goes_on s end
-  unfolding goes_on
-  on_mark h = rw (← test, h)
-
-  pub on_space : r ≡ false → end < length s → end + 1 ≡ goes_on s end
-  unfolding goes_on
-  on_space h l = rw (← test, h, lt-ltb end (length s))
-
-  pub on_end : r ≡ false → length s ≤ end → end ≡ goes_on s end
-  unfolding goes_on
-  on_end h l = rw (← test, h, le-ltb end (length s))
-
 -- the answer
 module _ (s : List ℕ) (at start end : ℕ) (from : start ≡ skip is_space s at) (to : end ≡ url_end s start) where
   pub url_good : (x : Span) (next : ℕ) → start < end → x ≡ span start (end - start) → next ≡ goes_on s end → good (x, next) ≡ url_at s at
@@ -185,4 +171,4 @@ module _ (s : List ℕ) (at start end : ℕ) (from : start ≡ skip is_space s a
   unfolding url_at
   url_empty why h made = rw (← from, ← to, le-ltb start end) (given_is why UrlEmpty start start 0 13 made refl refl)
 
-pub ruleset url = (url_closed, url_break, url_turn, url_less, on_mark, on_space, on_end, url_good, url_empty, scan)
+pub ruleset url = (url_closed, url_break, url_turn, url_less, url_good, url_empty, scan)

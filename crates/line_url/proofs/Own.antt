@@ -1,18 +1,11 @@
 -- The contract in document 01's terms leaves one answer. Assumes nothing.
-use mathlib.Core.Path.{◌≡◌, ap}
-use Prim.Native.Nat.{ℕ}
-use Rattle.refusal.proofs.Numbers.{given_own}
-use Rattle.cursor.specs.Cursor.{cursor}
-use Rattle.refusal.specs.Refusal.{given}
+use mathlib.Core.Path.{◌≡◌}
+use Rattle.std.specs.Prelude.{Result}
+use Rattle.refusal.specs.declared.fault.Refusal.{Refusal}
 use Rattle.refusal.specs.declared.place.Span.{Span}
-use Rattle.line_url.specs.Url.{told}
-use Rattle.line_url.specs.declared.Address.{Address}
-use Rattle.line_url.specs.declared.Address.TheVariants.{Read, Refused}
+use Rattle.cursor.proofs.Own.{told_at_own}
+use Rattle.cursor.specs.Cursor.{told_at}
+use Rattle.cursor.specs.declared.cursor.Cursor.{Cursor}
 
-pub told_own : (v w : Address) → told v ≡ told w → v ≡ w
-told_own (Read x m) (Read y n) e =
-    let p : ◌≡◌ {A = Span × ℕ} (x, m.at) (y, n.at) = cc in
-    ap (λ (q : Span × ℕ). Read q.0 (cursor q.1)) p
-told_own (Read x m) (Refused w) e = unfold given in cc
-told_own (Refused v) (Read y n) e = unfold given in cc
-told_own (Refused v) (Refused w) e = ap Refused (given_own v w e)
+pub told_own : (v w : Result (Span × Cursor) Refusal) → told_at v ≡ told_at w → v ≡ w
+told_own = told_at_own

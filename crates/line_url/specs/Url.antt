@@ -3,11 +3,9 @@ use Rattle.std.specs.Prelude.{ℕ, zero, suc, ◌+◌, ◌-◌, Bool, cond, not,
 use Prim.Native.Char.{code}
 use Rattle.refusal.specs.Answer.{Answer, good, refused}
 use Rattle.text.specs.Class.{is_space}
-use Rattle.refusal.specs.Refusal.{span, given}
+use Rattle.refusal.specs.Refusal.{span}
 use Rattle.text.specs.Scan.{skip, byte_at}
 use Rattle.refusal.specs.declared.place.Span.{Span}
-use Rattle.line_url.specs.declared.Address.{Address}
-use Rattle.line_url.specs.declared.Address.TheVariants.{Read, Refused}
 
 -- "CR or LF"
 abbrev pub is_break : ℕ → Bool
@@ -52,7 +50,3 @@ url_at s at =
     let start = skip is_space s at in
     let end = url_end s start in
     cond (ltb start end) (good (span start (end - start), goes_on s end)) (refused 13 start 0)
-
-abbrev pub told : Address → Answer (Span × ℕ)
-told (Read url next) = good (url, next.at)
-told (Refused why) = given why

@@ -1,4 +1,4 @@
--- what the check that comes first makes of the entry's answer
+-- what the reading, and the check that comes first, make of an answer
 pub mod Doors
 -- for the quick door
 mod Quickly

@@ -1,14 +1,11 @@
 -- What the marker entry answers, and what it has read then. How that stands in arrays is said by `Numbers` of `marker_store`.
 use Rattle.std.specs.Prelude.{ℕ, List, length}
 use Rattle.cursor.specs.Check.{checked}
-use Rattle.marker.specs.declared.quick.Quick.{Quick}
 use Rattle.marker_steps.specs.Grammar.{Parsed, got, fault, parse_from}
 use Rattle.marker_steps.specs.Marking.{Marking, marking, nothing}
 use Rattle.marker_store.specs.declared.marks.Counts.{Counts}
 use Rattle.refusal.specs.Answer.{Answer, good, good_or}
 use Rattle.refusal.specs.Refusal.{given}
-use Rattle.refusal.specs.declared.fault.Outcome.TheVariants.{Refused}
-use Rattle.refusal.specs.declared.fault.Refusal.{Refusal}
 
 abbrev pub answered : Parsed → Answer Marking
 answered (got t e) = good (marking t)
@@ -34,7 +31,3 @@ entry_marking s = listed_of (entry_answer s)
 
 abbrev pub counts_of : Marking → Counts
 counts_of m = record { kept = length m.comparisons; warned = length m.warnings; words = length m.words }
-
--- a refusal by the quick door
-abbrev pub refused_by : Refusal → Quick
-refused_by why = record { outcome = Refused why; counts = counts_of nothing }

@@ -3,4 +3,4 @@
 
 mod quick;
 
-pub use quick::{Quick, read_quick, read_quick_from};
+pub use quick::{read_quick, read_quick_from};

@@ -14,12 +14,15 @@ use Rattle.cursor.specs.Limits.{max_comparisons}
 use Rattle.program_check.specs.Rules.{max_words}
 use Rattle.marker_steps.specs.Grammar.{Tree, compared, both, either, group, kept_in, warned_in, warning_of, kept_of, warned_of}
 use Rattle.marker_steps.specs.Marking.{is_kept, some, push, joint, words_from}
-use Rattle.marker_steps.specs.inner.Steps.{Raw, raw_of, keeping, warning, pushed, joining, taking, emit}
+use Rattle.marker_steps.specs.inner.Steps.{raw_of, joining, taking, emit}
+use Rattle.marker_store.specs.Sheet.{keeping, warning, pushed}
+use Rattle.marker_store.specs.declared.sheet.Sheet.{Sheet}
+use Rattle.marker_kind.specs.Code.{kind_number}
 use Rattle.marker_store.specs.declared.marks.Warning.{Warning}
 use Rattle.refusal.specs.declared.place.Span.{Span}
 
 -- the arrays that hold three lists
-abbrev pub holding : List Comparison → List Warning → List ℕ → Raw
+abbrev pub holding : List Comparison → List Warning → List ℕ → Sheet
 holding cs ws ps = raw_of (record { comparisons = cs; warnings = ws; words = ps })
 
 -- one more is counted
@@ -47,12 +50,12 @@ take_reads : (v : Verdict) (x : Span) (cs : List Comparison) (ws : List Warning)
 take_reads (Kept c) x cs ws ps h j g = rw (append-nil ws) (keep_reads c cs ws ps (omega arith) (omega arith))
 take_reads (KeptWarned c) x cs ws ps h j g =
     ap (keeping c) (warn_reads (warning_of 4 x) cs ws ps (omega arith)) ∙ keep_reads c cs (ws ++ (warning_of 4 x ∷ [])) ps (omega arith) (omega arith)
-take_reads (Ignored kind) x cs ws ps h j g = rw (append-nil cs, append-nil ps) (warn_reads (warning_of kind x) cs ws ps (omega arith))
+take_reads (Ignored kind) x cs ws ps h j g = rw (append-nil cs, append-nil ps) (warn_reads (warning_of (kind_number kind) x) cs ws ps (omega arith))
 take_reads (IgnoredTwice kind) x cs ws ps h j g =
     rw (append-nil cs, append-nil ps)
-    (ap (warning (warning_of kind x)) (warn_reads (warning_of kind x) cs ws ps (omega arith))
-    ∙ warn_reads (warning_of kind x) cs (ws ++ (warning_of kind x ∷ [])) ps (omega (arith, length-append ws (warning_of kind x ∷ [])))
-    ∙ ap (λ (l : List Warning). holding cs l ps) (append_assoc ws (warning_of kind x ∷ []) (warning_of kind x ∷ [])))
+    (ap (warning (warning_of (kind_number kind) x)) (warn_reads (warning_of (kind_number kind) x) cs ws ps (omega arith))
+    ∙ warn_reads (warning_of (kind_number kind) x) cs (ws ++ (warning_of (kind_number kind) x ∷ [])) ps (omega (arith, length-append ws (warning_of (kind_number kind) x ∷ [])))
+    ∙ ap (λ (l : List Warning). holding cs l ps) (append_assoc ws (warning_of (kind_number kind) x ∷ []) (warning_of (kind_number kind) x ∷ [])))
 
 join_reads : (x y : Bool) (v : ℕ) (cs : List Comparison) (ws : List Warning) (ps : List ℕ) → length ps + one x + one y ≤ 128 →
     joining x y v (holding cs ws ps) ≡ holding cs ws (ps ++ joint x y v)

@@ -17,7 +17,8 @@ use Rattle.marker_cycle.proofs.Chain.{Sane, Joins, chain_sane}
 use Rattle.cursor.specs.Limits.{max_comparisons}
 use Rattle.marker_steps.specs.Grammar.{both, either, group, kept_in, warned_in, kept_of, warned_of, Parsed, got, fault, settled, settle, on, off, word_ahead, and_word, or_word, item_at, item_of, and_of, or_of, closed, group_at}
 use Rattle.marker_steps.specs.Marking.{some}
-use Rattle.marker_steps.specs.inner.Steps.{Raw, State, emit, state_of, closed_by}
+use Rattle.marker_steps.specs.inner.Steps.{State, emit, state_of, closed_by}
+use Rattle.marker_store.specs.declared.sheet.Sheet.{Sheet}
 use Rattle.text.proofs.Cases.{by_order, both as both_hold}
 use Rattle.text.proofs.Laws.{skip_end}
 use Rattle.text.proofs.Reach.{skip_from, skip_within}
@@ -26,7 +27,9 @@ use Rattle.refusal.specs.Refusal.{span, refusal}
 use Rattle.text.specs.Scan.{skip, byte_at}
 use Rattle.text.specs.Word.{begins, spells}
 use Rattle.refusal.specs.declared.fault.Fault.TheVariants.{ExpectedFoundEnd, ExpectedFoundOther, TooDeep}
+use Rattle.refusal.specs.declared.fault.Refusal.{Refusal}
 use Rattle.refusal.specs.declared.place.Span.{Span}
+use Rattle.std.specs.Prelude.{Result, Ok, Err}
 
 pub joins_both : Joins both 64
 unfolding kept_of warned_of some emit
@@ -84,9 +87,9 @@ settle_sane : (s : List ℕ) (at k w : ℕ) → Sane at k w (settle (found_at s 
 unfolding settle
 settle_sane s at k w = go (found_at s at) refl
   where
-    go : (f : Found) → found_at s at ≡ f → Sane at k w (settle f k w)
-    go (Found.Comparison v x next) e = settled_sane at k w v x next.at (found_further s at v x next e).behind
-    go (Found.Fault why) e = tt
+    go : (f : Result Found Refusal) → found_at s at ≡ f → Sane at k w (settle f k w)
+    go (Ok f) e = settled_sane at k w f.verdict f.span f.next.at (found_further s at f.verdict f.span f.next e).behind
+    go (Err why) e = tt
 
 sane_from : (at p k w : ℕ) (q : Parsed) → at ≤ p → Sane p k w q → Sane at k w q
 sane_from at p k w (got t e) h sn = (omega (arith, sn.0), sn.1, sn.2)
@@ -159,7 +162,7 @@ group_in s zero at k w f = absurd (f refl)
 group_in s (suc d) at k w f = rw (sub-one (suc d))
 
 -- what closes a group says of its inside what the grammar says of its tree
-pub closed_state : (s : List ℕ) (opened : ℕ) (p : Parsed) (r : Raw) → closed_by s opened (state_of p r) ≡ state_of (closed s opened p) r
+pub closed_state : (s : List ℕ) (opened : ℕ) (p : Parsed) (r : Sheet) → closed_by s opened (state_of p r) ≡ state_of (closed s opened p) r
 unfolding closed_by state_of closed emit some
 closed_state s opened (got t e) r = go (eqb (byte_at s d) (code ")")) (ltb d (length s))
   where
@@ -174,13 +177,13 @@ closed_state s opened (got t e) r = go (eqb (byte_at s d) (code ")")) (ltb d (le
     go false false = refl
 closed_state s opened (fault why) r = refl
 
-pub group_state : (s : List ℕ) (d at : ℕ) (r : Raw) (inner res : State) {h : ℕ} → h ≡ skip is_space s at → {b : Bool} → b ≡ eqb (byte_at s h) (code "(") → b ≡ true → (d ≡ 0 → ⊥) →
-    inner ≡ state_of (or_of s (group_at s (d - 1)) (h + 1) r.kept r.warned) r → res ≡ closed_by s h inner →
-    res ≡ state_of (item_of s (group_at s d) at r.kept r.warned) r
+pub group_state : (s : List ℕ) (d at : ℕ) (r : Sheet) (inner res : State) {h : ℕ} → h ≡ skip is_space s at → {b : Bool} → b ≡ eqb (byte_at s h) (code "(") → b ≡ true → (d ≡ 0 → ⊥) →
+    inner ≡ state_of (or_of s (group_at s (d - 1)) (h + 1) r.counts.kept r.counts.warned) r → res ≡ closed_by s h inner →
+    res ≡ state_of (item_of s (group_at s d) at r.counts.kept r.counts.warned) r
 group_state s d at r inner res {h} hs hb ht hd hi hr =
     rw (
-      item_group s (group_at s d) at r.kept r.warned hs hb ht,
-      group_in s d h r.kept r.warned hd,
-      ← closed_state s h (or_of s (group_at s (d - 1)) (h + 1) r.kept r.warned) r,
+      item_group s (group_at s d) at r.counts.kept r.counts.warned hs hb ht,
+      group_in s d h r.counts.kept r.counts.warned hd,
+      ← closed_state s h (or_of s (group_at s (d - 1)) (h + 1) r.counts.kept r.counts.warned) r,
       ← hi,
     ) hr

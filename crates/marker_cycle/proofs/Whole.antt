@@ -1,27 +1,28 @@
 -- For `read_from` and the doors above: what the code says of the whole marker is what the specification says. Assumes nothing.
-use mathlib.Core.Path.{◌≡◌, refl, sym, ap, ◌∙◌}
+use mathlib.Core.Path.{◌≡◌, refl, ap, ◌∙◌}
 use mathlib.Core.Bool.{Bool, true, false, cond, ◌||◌}
 use mathlib.Core.List.{List, [], ◌∷◌}
 use Prim.Native.Nat.{ℕ, ◌+◌, ◌-◌, ◌<◌, ◌≤◌}
 use native.Mathlib.Omega.{arith}
 use lib.Dec.{ltb}
-use lib.ListN.{length, replicate}
+use lib.ListN.{length}
 use Rattle.marker_verdict.specs.declared.verdict.Verdict.{Verdict}
 use Rattle.marker_verdict.specs.declared.verdict.Verdict.TheVariants.{Kept, KeptWarned, Ignored, IgnoredTwice}
-use Rattle.marker_cycle.proofs.Chain.{Sane}
+use Rattle.marker_cycle.proofs.Chain.{Sane, same_some}
 use Rattle.marker_cycle.proofs.Emit.{nk, one, emit_count}
 use Rattle.marker_cycle.proofs.Held.{emit_reads, push_reads, words_count}
 use Rattle.marker_cycle.proofs.Items.{by_test, or_sane, group_sane}
-use Rattle.marker_steps.proofs.Laws.{live}
 use Rattle.marker_store.specs.Numbers.{all_numbers, no_counts}
-use Rattle.marker_store.specs.Room.{comparisons_room, warnings_room}
 use Rattle.cursor.specs.Limits.{max_comparisons}
 use Rattle.program_check.specs.Rules.{max_words}
 use Rattle.marker_steps.specs.Grammar.{Tree, compared, both, either, group, kept_of, warned_of, Parsed, got, fault, or_of, group_at, ending, parse_from}
 use Rattle.marker_steps.specs.Marking.{is_kept, some, push, words_from, program, nothing}
-use Rattle.marker_steps.specs.inner.Steps.{Raw, raw_of, State, view_of, shows, emit, pushed, stopped, read_to, state_of, whole_of, Spare, Fits, finished}
-use Rattle.marker_steps.specs.declared.part.Part.TheVariants.{Read, Refused}
-use Rattle.marker_steps.specs.declared.part.Progress.{Progress}
+use Rattle.marker_steps.specs.inner.Steps.{raw_of, State, read, shows, emit, stopped, read_to, state_of, whole_of, Slack, finished}
+use Rattle.marker_steps.specs.declared.part.Part.{Part}
+use Rattle.marker_store.specs.Sheet.{blank, pushed}
+use Rattle.marker_store.specs.declared.marks.Counts.{Counts}
+use Rattle.marker_store.specs.declared.sheet.Sheet.{Sheet}
+use Rattle.std.specs.Prelude.{Ok, Err}
 use Rattle.text.specs.Class.{is_space}
 use Rattle.cursor.specs.Cursor.{cursor}
 use Rattle.refusal.specs.Refusal.{refusal}
@@ -58,20 +59,20 @@ line_sane s at = or_sane s (group_at s 16) (group_sane s 16) at 0 0 (omega arith
 none_kept : (t : Tree) → some t ≡ false → nk t ≡ 0
 none_kept t e = omega (arith, words_count 0 t, ap length (none_words 0 t e), ap one e)
 
-pub line_spare : (s : List ℕ) (at : ℕ) (a : State) → a ≡ state_of (line_of s at) (raw_of nothing) → Spare false a
-unfolding state_of Spare raw_of
-line_spare s at a e c ec = go (line_of s at) e
+pub line_slack : (s : List ℕ) (at : ℕ) (a : State) → a ≡ state_of (line_of s at) (raw_of nothing) → Slack false a
+unfolding state_of Slack raw_of
+line_slack s at a e c ec = go (line_of s at) e
   where
-    go : (p : Parsed) → a ≡ state_of p (raw_of nothing) → a.raw.count < max_words
+    go : (p : Parsed) → a ≡ state_of p (raw_of nothing) → a.raw.counts.words < max_words
     go (got t d) q =
-        let z : Read (cursor d) (some t) ≡ Read c false = rw q at ec in
-        rw q (omega (arith, emit_count t (raw_of nothing), none_kept t (cc)))
+        let z : read (cursor d) (some t) ≡ read c false = rw q at ec in
+        rw q (omega (arith, emit_count t (raw_of nothing), none_kept t (same_some z)))
     go (fault why) q =
-        let z : Refused why ≡ Read c false = rw q at ec in
+        let z : Err why ≡ read c false = rw q at ec in
         let y : ◌≡◌ {A = ℕ} 0 1 = cc in absurd (omega arith)
 
 -- the reading from nothing
-pub line_state : (s : List ℕ) (at : ℕ) {r : Raw} {a : State} → r ≡ raw_of nothing → a ≡ state_of (or_of s (group_at s 16) at r.kept r.warned) r → a ≡ state_of (line_of s at) (raw_of nothing)
+pub line_state : (s : List ℕ) (at : ℕ) {r : Sheet} {a : State} → r ≡ raw_of nothing → a ≡ state_of (or_of s (group_at s 16) at r.counts.kept r.counts.warned) r → a ≡ state_of (line_of s at) (raw_of nothing)
 unfolding raw_of
 line_state s at er ea = rw er at ea
 
@@ -99,15 +100,15 @@ ended s at (got t e) sn = test (ltb (skip is_space s e) (length s))
 ended s at (fault why) sn = refl
 
 -- what the code has of the marker: empty arrays, the chain's end and its finish
-pub whole_state : (s : List ℕ) (at : ℕ) {r : Raw} {a b : State} → r ≡ raw_of nothing →
-    a ≡ state_of (or_of s (group_at s 16) at r.kept r.warned) r → b ≡ finished s a → b ≡ whole_of (parse_from s at)
+pub whole_state : (s : List ℕ) (at : ℕ) {r : Sheet} {a b : State} → r ≡ raw_of nothing →
+    a ≡ state_of (or_of s (group_at s 16) at r.counts.kept r.counts.warned) r → b ≡ finished s a → b ≡ whole_of (parse_from s at)
 unfolding parse_from
 whole_state s at er ea eb = eb ∙ ap (finished s) (line_state s at er ea) ∙ ended s at (line_of s at) (line_sane s at)
 
 -- arrays of zeros hold nothing
-pub view_nothing : view_of (replicate comparisons_room 0) (replicate warnings_room 0) (replicate max_words 0) no_counts ≡ raw_of nothing
-unfolding raw_of all_numbers
-view_nothing = refl
+pub blank_nothing : (r : Sheet) → r ≡ blank → record r { counts = no_counts } ≡ raw_of nothing
+unfolding blank raw_of all_numbers
+blank_nothing r e = rw e
 
 pub parse_sane : (s : List ℕ) (at : ℕ) → Sane at 0 0 (parse_from s at)
 unfolding parse_from ending
@@ -126,14 +127,20 @@ program_short t h = go (some t) refl
     go true e = omega (arith, words_count 0 t, ap one e)
     go false e = omega arith
 
-pub fits_of : (s : List ℕ) (at : ℕ) (a : Progress) (cs ws ps : List ℕ) → shows a cs ws ps ≡ whole_of (parse_from s at) → Fits a
-unfolding whole_of Fits raw_of
-fits_of s at a cs ws ps h c b e = go (parse_from s at) (parse_sane s at) h
+-- so do they with counts of 0
+pub counts_nothing : (r : Sheet) {n : Counts} → (n.kept ≡ 0) × ((n.warned ≡ 0) × (n.words ≡ 0)) → record r { counts = no_counts } ≡ raw_of nothing → record r { counts = n } ≡ raw_of nothing
+counts_nothing r {n} z e = (λ i. record r { counts = record { kept = z.0 i; warned = z.1.0 i; words = z.1.1 i } }) ∙ e
+
+-- a marker that was read has counts within the arrays
+pub fits_of : (s : List ℕ) (at : ℕ) (r : Sheet) (p : Part) → shows (Ok p) r ≡ whole_of (parse_from s at) → (r.counts.kept ≤ max_comparisons) × (r.counts.warned ≤ max_comparisons)
+unfolding whole_of raw_of
+fits_of s at r p h = go (parse_from s at) (parse_sane s at) h
   where
-    go : (p : Parsed) → Sane at 0 0 p → shows a cs ws ps ≡ whole_of p → (a.counts.kept ≤ max_comparisons) × (a.counts.warned ≤ max_comparisons)
+    go : (q : Parsed) → Sane at 0 0 q → shows (Ok p) r ≡ whole_of q → (r.counts.kept ≤ max_comparisons) × (r.counts.warned ≤ max_comparisons)
     go (got t d) sn g =
-        let r = sym (live (view_of cs ws ps a.counts) e) ∙ ap (λ (z : State). z.raw) g in
-        (omega (arith, ap (λ (z : Raw). z.kept) r, sn.1), omega (arith, ap (λ (z : Raw). z.warned) r, sn.2))
+        let k = ap (λ (z : State). z.raw.counts.kept) g in
+        let w = ap (λ (z : State). z.raw.counts.warned) g in
+        (omega (arith, sn.1), omega (arith, sn.2))
     go (fault why) sn g =
-        let z : a.part ≡ Refused why = ap (λ (z : State). z.part) g in
+        let z : Ok p ≡ Err why = ap (λ (z : State). z.part) g in
         let y : ◌≡◌ {A = ℕ} 0 1 = cc in absurd (omega arith)

@@ -1,6 +1,11 @@
 -- What has a number is found again by it, so no two share one. Assumes nothing.
-use mathlib.Core.Path.{◌≡◌, refl}
-use Rattle.marker_kind.specs.Code.{sort_code, key_code, operator_code, sort_of, key_of, operator_of}
+use mathlib.Core.Path.{◌≡◌, refl, sym}
+use Prim.Native.Nat.{ℕ}
+use lib.ListN.{get_or-eq_default}
+use Rattle.std.specs.Prelude.{Result, Ok, Err}
+use Rattle.std.specs.Result.{result_unwrap_or}
+use Rattle.marker_kind.specs.Code.{sort_code, key_code, operator_code, sorts, keys, operators, sort_of, key_of, operator_of, Sorts, Keys, Operators}
+use Rattle.marker_kind.specs.declared.code.NoCode.{NoCode}
 use Rattle.marker_kind.specs.declared.kind.ExtraKind.TheVariants.{Normal, Arbitrary}
 use Rattle.marker_kind.specs.declared.kind.Key.{Key}
 use Rattle.marker_kind.specs.declared.kind.Operator.{Operator}
@@ -42,3 +47,16 @@ operator_own Operator.In = refl
 operator_own Operator.NotIn = refl
 operator_own Operator.Contains = refl
 operator_own Operator.NotContains = refl
+
+-- a number that is no code is read as 0 is
+pub sort_read : (n : ℕ) (r : Result Sort NoCode) → Sorts n r → result_unwrap_or r Sort.Version ≡ sort_of n
+sort_read n (Ok x) e = rw (← e) (sym (sort_own x))
+sort_read n (Err why) e = unfold sort_of in sym (get_or-eq_default sorts Sort.Version e.1)
+
+pub key_read : (n : ℕ) (r : Result Key NoCode) → Keys n r → result_unwrap_or r Key.PythonVersion ≡ key_of n
+key_read n (Ok x) e = rw (← e) (sym (key_own x))
+key_read n (Err why) e = unfold key_of in sym (get_or-eq_default keys Key.PythonVersion e.1)
+
+pub operator_read : (n : ℕ) (r : Result Operator NoCode) → Operators n r → result_unwrap_or r Operator.Equal ≡ operator_of n
+operator_read n (Ok x) e = rw (← e) (sym (operator_own x))
+operator_read n (Err why) e = unfold operator_of in sym (get_or-eq_default operators Operator.Equal e.1)

@@ -7,6 +7,8 @@ use mathlib.Core.Path.{◌≡◌, refl, sym, ap, ◌∙◌}
 use native.Mathlib.Omega.{arith}
 use lib.Dec.{ltb, eqb}
 use lib.ListN.{length}
+use Rattle.refusal.specs.declared.fault.Refusal.{Refusal}
+use Rattle.std.specs.Prelude.{Result, Ok, Err}
 use Rattle.marker_verdict.proofs.Further.{found_further}
 use Rattle.marker_verdict.specs.Found.{found_at}
 use Rattle.marker_verdict.specs.declared.found.Found.{Found}
@@ -35,11 +37,11 @@ settle_past : (s : List ℕ) (at k w : ℕ) → Past at (settle (found_at s at) 
 unfolding settle settled
 settle_past s at k w = go (found_at s at) refl
   where
-    go : (f : Found) → found_at s at ≡ f → Past at (settle f k w)
-    go (Found.Comparison v x next) e =
-        by_test (Past at) (ltb 64 (w + length (warned_in v x))) _ _ (λ _. tt)
-        (λ _. by_test (Past at) (ltb 64 (k + length (kept_in v))) _ _ (λ _. tt) (λ _. (found_further s at v x next e).behind))
-    go (Found.Fault why) e = tt
+    go : (f : Result Found Refusal) → found_at s at ≡ f → Past at (settle f k w)
+    go (Ok f) e =
+        by_test (Past at) (ltb 64 (w + length (warned_in f.verdict f.span))) _ _ (λ _. tt)
+        (λ _. by_test (Past at) (ltb 64 (k + length (kept_in f.verdict))) _ _ (λ _. tt) (λ _. (found_further s at f.verdict f.span f.next e).behind))
+    go (Err why) e = tt
 
 item_past : (s : List ℕ) (inner : ℕ → ℕ → ℕ → Parsed) → Pasts inner → Pasts (item_of s inner)
 item_past s inner h at k w =

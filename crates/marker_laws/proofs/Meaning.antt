@@ -30,6 +30,8 @@ use Rattle.program_check.specs.Tree.{Sense, fold, saying, postfix, Below, slots,
 use Rattle.refusal.specs.Answer.{good, refused, passes}
 use Rattle.text.specs.Class.{is_space, is_ascii}
 use Rattle.refusal.specs.Refusal.{given}
+use Rattle.refusal.specs.declared.fault.Refusal.{Refusal}
+use Rattle.std.specs.Prelude.{Result, Ok, Err}
 use Rattle.text.specs.Scan.{run, skip, byte_at}
 
 -- whether anything is left, and its words
@@ -207,12 +209,12 @@ in_slim n (KeptWarned c) = omega arith
 in_slim n (Ignored kind) = tt
 in_slim n (IgnoredTwice kind) = tt
 
-settle_small : (found : Found) (k w : ℕ) → Slims 1 (settle found k w)
+settle_small : (found : Result Found Refusal) (k w : ℕ) → Slims 1 (settle found k w)
 unfolding settle settled left_of
-settle_small (Found.Comparison v x next) k w =
-    by_test (Slims 1) (ltb 64 (w + length (warned_in v x))) _ _ (λ _. tt)
-    (λ _. by_test (Slims 1) (ltb 64 (k + length (kept_in v))) _ _ (λ _. tt) (λ _. λ n. in_slim n v))
-settle_small (Found.Fault why) k w = tt
+settle_small (Ok f) k w =
+    by_test (Slims 1) (ltb 64 (w + length (warned_in f.verdict f.span))) _ _ (λ _. tt)
+    (λ _. by_test (Slims 1) (ltb 64 (k + length (kept_in f.verdict))) _ _ (λ _. tt) (λ _. λ n. in_slim n f.verdict))
+settle_small (Err why) k w = tt
 
 or_small : (s : List ℕ) (inner : ℕ → ℕ → ℕ → Parsed) (m : ℕ) → 1 ≤ m → Small m inner → Small (m + 1 + 1) (or_of s inner)
 unfolding or_of and_of slots left_of

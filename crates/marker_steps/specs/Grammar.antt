@@ -1,10 +1,11 @@
 -- The language of markers: what is read from a place on to the end of the line, or the first fault met from left to right.
 use Prim.Native.Char.{code}
-use Rattle.std.specs.Prelude.{ℕ, zero, suc, ◌+◌, ◌-◌, true, false, cond, List, [], ◌∷◌, ◌++◌, ltb, eqb, length}
+use Rattle.std.specs.Prelude.{ℕ, zero, suc, ◌+◌, ◌-◌, true, false, cond, List, [], ◌∷◌, ◌++◌, ltb, eqb, length, Result, Ok, Err}
 use Rattle.marker_verdict.specs.Found.{found_at}
 use Rattle.marker_verdict.specs.declared.found.Found.{Found}
 use Rattle.marker_verdict.specs.declared.verdict.Verdict.{Verdict}
 use Rattle.marker_verdict.specs.declared.verdict.Verdict.TheVariants.{Kept, KeptWarned, Ignored, IgnoredTwice}
+use Rattle.marker_kind.specs.Code.{kind_number}
 use Rattle.marker_kind.specs.declared.kind.Comparison.{Comparison}
 use Rattle.marker_store.specs.declared.marks.Warning.{Warning}
 use Rattle.cursor.specs.Limits.{max_depth, max_comparisons}
@@ -38,8 +39,8 @@ warning_of kind x = record { kind = kind; span = x }
 abbrev pub warned_in : Verdict → Span → List Warning
 warned_in (Kept c) x = []
 warned_in (KeptWarned c) x = warning_of 4 x ∷ []
-warned_in (Ignored kind) x = warning_of kind x ∷ []
-warned_in (IgnoredTwice kind) x = warning_of kind x ∷ warning_of kind x ∷ []
+warned_in (Ignored kind) x = warning_of (kind_number kind) x ∷ []
+warned_in (IgnoredTwice kind) x = warning_of (kind_number kind) x ∷ warning_of (kind_number kind) x ∷ []
 
 -- the comparisons that a tree keeps, and the warnings that it gives, in the order of the line
 unfoldable pub kept_of : Tree → List Comparison
@@ -74,9 +75,9 @@ settled v x next k w =
     (cond (ltb max_comparisons (k + length (kept_in v))) (over ComparisonsMany x)
     (got (compared v x) next))
 
-unfoldable pub settle : Found → ℕ → ℕ → Parsed
-settle (Found.Comparison v x next) k w = settled v x next.at k w
-settle (Found.Fault why) k w = fault why
+unfoldable pub settle : Result Found Refusal → ℕ → ℕ → Parsed
+settle (Ok f) k w = settled f.verdict f.span f.next.at k w
+settle (Err why) k w = fault why
 
 -- whether a chain goes on, and from where
 pub data Ahead : Type 0 where

@@ -4,5 +4,5 @@
 mod part;
 mod step;
 
-pub use part::{Onward, Part, Progress, refused};
+pub use part::Part;
 pub use step::{ahead_and, ahead_or, close, finish, join, take_in};

@@ -1,85 +1,25 @@
-// The steps of the reading that are no part of the cycle: each takes how far a part was read, and hands back how far it is read now.
-ghost use Rattle.std.specs.Prelude.{true, false, List, ◌≡◌, ℕ, ◌<◌, length};
-ghost use Rattle.cursor.specs.Limits.{max_comparisons};
-ghost use Rattle.program_check.specs.Rules.{max_words};
-ghost use Rattle.marker_steps.specs.Grammar.{kept_in, warned_in, warning_of, settled, settle, word_ahead, and_word, or_word};
-ghost use Rattle.marker_steps.specs.inner.Steps.{view_of, shows, Inside, Takes, Slack, keeping, warning, pushed, taking, read_after, onward, joined, closed_by, finished};
+// The steps of the reading that are no part of the cycle: each takes how far a part was read, and hands back how far it is read now. They take a refusal
+// too, and hand it on, so that the cycle need not look.
+ghost use Rattle.std.specs.Prelude.{true, false, ◌≡◌, ◌<◌, length};
+ghost use Rattle.marker_kind.specs.Code.{kind_number};
+ghost use Rattle.marker_steps.specs.Grammar.{kept_in, warned_in, warning_of, settle, word_ahead, and_word, or_word};
+ghost use Rattle.marker_steps.specs.inner.Steps.{shows, Inside, Takes, Slack, taking, read_after, onward, joined, closed_by, finished};
 
-use crate::part::{Onward, Part, Progress, read_to, refused};
+use crate::part::Part;
 use cursor::Cursor;
-use marker_kind::Comparison;
-use marker_store::{
-    Comparisons, Counts, Warning, Warnings, Words, store_comparison, store_warning,
-};
+use marker_kind::WarningKind;
+use marker_store::{Sheet, Warning};
 use marker_verdict::{Found, Verdict};
 use refusal::{Fault, Refusal, Span};
 use text::{has, spelled};
-
-// A kept comparison: its numbers, and the word that pushes it.
-fn keep(
-    comps: &mut Comparisons,
-    words: &mut Words,
-    counts: Counts,
-    comparison: Comparison,
-) -> Counts
-    requires { (counts.kept < max_comparisons) × (counts.words < max_words) }
-    ensures { (ws : List ℕ) → view_of comps.new ws words.new result
-        ≡ keeping comparison (view_of comps.old ws words.old counts) }
-{
-    let kept = counts.kept;
-    let count = counts.words;
-    store_comparison(comps, kept, comparison);
-    words[count] = kept as u8;
-    Counts {
-        kept: kept + 1,
-        warned: counts.warned,
-        words: count + 1,
-    }
-}
-
-// A warning: its numbers. An ignored comparison leaves nothing else.
-fn warn(warns: &mut Warnings, counts: Counts, kind: u8, span: Span) -> Counts
-    requires { counts.warned < max_comparisons }
-    ensures { (cs ps : List ℕ) → view_of cs warns.new ps result
-        ≡ warning (warning_of kind span) (view_of cs warns.old ps counts) }
-{
-    let warned = counts.warned;
-    let one = Warning {
-        kind: kind as usize,
-        span,
-    };
-    store_warning(warns, warned, one);
-    Counts {
-        kept: counts.kept,
-        warned: warned + 1,
-        words: counts.words,
-    }
-}
-
-// A word of the program that is no comparison's.
-fn push(words: &mut Words, counts: Counts, word: u8) -> Counts
-    requires { counts.words < max_words }
-    ensures { (cs ws : List ℕ) → view_of cs ws words.new result
-        ≡ pushed (view_of cs ws words.old counts) word }
-{
-    let count = counts.words;
-    words[count] = word;
-    Counts {
-        kept: counts.kept,
-        warned: counts.warned,
-        words: count + 1,
-    }
-}
 
 // How many comparisons a verdict keeps, and how many warnings it gives: known before the first number is stored.
 fn kept_in(verdict: Verdict) -> usize
     ensures { result ≡ length (kept_in verdict) }
 {
     match verdict {
-        Verdict::Kept(_) => 1,
-        Verdict::KeptWarned(_) => 1,
-        Verdict::Ignored(_) => 0,
-        Verdict::IgnoredTwice(_) => 0,
+        Verdict::Kept(_) | Verdict::KeptWarned(_) => 1,
+        Verdict::Ignored(_) | Verdict::IgnoredTwice(_) => 0,
     }
 }
 
@@ -88,191 +28,150 @@ fn warned_in(verdict: Verdict) -> usize
 {
     match verdict {
         Verdict::Kept(_) => 0,
-        Verdict::KeptWarned(_) => 1,
-        Verdict::Ignored(_) => 1,
+        Verdict::KeptWarned(_) | Verdict::Ignored(_) => 1,
         Verdict::IgnoredTwice(_) => 2,
     }
 }
 
-// A comparison goes into the arrays, its warnings first.
-fn write_down(
-    verdict: Verdict,
-    span: Span,
-    comps: &mut Comparisons,
-    warns: &mut Warnings,
-    words: &mut Words,
-    counts: Counts,
-) -> Counts
-    requires { Inside counts × Takes verdict span counts }
-    ensures { view_of comps.new warns.new words.new result
-        ≡ taking verdict span (view_of comps.old warns.old words.old counts) }
+fn warning_of(kind: WarningKind, span: Span) -> Warning
+    ensures { result ≡ warning_of (kind_number kind) span }
+{
+    Warning {
+        kind: kind.number(),
+        span,
+    }
+}
+
+// A comparison goes into the sheet, its warnings first.
+#[tactic(auto, unfolding(marker_store::specs::Sheet::warning))]
+fn write_down(verdict: Verdict, span: Span, sheet: &mut Sheet)
+    requires { Inside sheet.old.counts × Takes verdict span sheet.old.counts }
+    ensures { sheet.new ≡ taking verdict span sheet.old }
 {
     match verdict {
-        Verdict::Kept(comparison) => keep(comps, words, counts, comparison),
+        Verdict::Kept(comparison) => sheet.keep(comparison),
         Verdict::KeptWarned(comparison) => {
-            let n = warn(warns, counts, 4, span);
-            keep(comps, words, n, comparison)
+            sheet.warn(warning_of(WarningKind::BadExtra, span));
+            sheet.keep(comparison);
         }
-        Verdict::Ignored(kind) => warn(warns, counts, kind, span),
+        Verdict::Ignored(kind) => sheet.warn(warning_of(kind, span)),
         Verdict::IgnoredTwice(kind) => {
-            let n = warn(warns, counts, kind, span);
-            warn(warns, n, kind, span)
+            sheet.warn(warning_of(kind, span));
+            sheet.warn(warning_of(kind, span));
         }
     }
 }
 
-// A comparison with its span and where it ended: 27 before 26, both met at its last byte.
-fn settle_one(
-    verdict: Verdict,
-    span: Span,
-    next: Cursor,
-    comps: &mut Comparisons,
-    warns: &mut Warnings,
-    words: &mut Words,
-    counts: Counts,
-) -> Progress
-    requires { Inside counts }
-    ensures { shows result comps.new warns.new words.new
-        ≡ read_after (settled verdict span next.at)
-        (view_of comps.old warns.old words.old counts) }
+// What stands where an item starts, if that is no group: 27 before 26, both met at the last byte of the comparison.
+#[tactic(auto, unfolding(crate::specs::Grammar::settle, crate::specs::Grammar::settled, crate::specs::inner::Steps::state_of, crate::specs::inner::Steps::emit, crate::specs::Marking::some))]
+pub fn take_in(found: Result<Found, Refusal>, sheet: &mut Sheet) -> Result<Part, Refusal>
+    requires { Inside sheet.old.counts }
+    ensures { shows result sheet.new ≡ read_after (settle found) sheet.old }
 {
+    let Found {
+        verdict,
+        span,
+        next,
+    } = found?;
     let kept = kept_in(verdict);
     let warned = warned_in(verdict);
-    if Cursor::MAX_COMPARISONS < counts.warned + warned {
-        let fault = Fault::WarningsMany;
-        return refused(Refusal { fault, span });
-    }
-    if Cursor::MAX_COMPARISONS < counts.kept + kept {
-        let fault = Fault::ComparisonsMany;
-        return refused(Refusal { fault, span });
-    }
-    let n = write_down(verdict, span, comps, warns, words, counts);
-    read_to(next, kept == 1, n)
-}
-
-// What stands where an item starts, if that is no group.
-pub fn take_in(
-    found: Found,
-    comps: &mut Comparisons,
-    warns: &mut Warnings,
-    words: &mut Words,
-    counts: Counts,
-) -> Progress
-    requires { Inside counts }
-    ensures { shows result comps.new warns.new words.new
-        ≡ read_after (settle found) (view_of comps.old warns.old words.old counts) }
-{
-    match found {
-        Found::Comparison {
-            verdict,
+    if Cursor::MAX_COMPARISONS < sheet.counts.warned + warned {
+        return Err(Refusal {
+            fault: Fault::WarningsMany,
             span,
-            next,
-        } => settle_one(verdict, span, next, comps, warns, words, counts),
-        Found::Fault(why) => refused(why),
+        });
     }
+    if Cursor::MAX_COMPARISONS < sheet.counts.kept + kept {
+        return Err(Refusal {
+            fault: Fault::ComparisonsMany,
+            span,
+        });
+    }
+    write_down(verdict, span, sheet);
+    Ok(Part {
+        next,
+        some: kept == 1,
+    })
 }
 
 // After a group's inside: its closing byte.
-pub fn close(line: &[u8], opened: usize, inner: Progress) -> Progress
-    ensures { (cs ws ps : List ℕ) → shows result cs ws ps
-        ≡ closed_by line.now opened (shows inner cs ws ps) }
+#[tactic(auto, unfolding(crate::specs::inner::Steps::closed_by))]
+pub fn close(line: &[u8], opened: usize, inner: Result<Part, Refusal>) -> Result<Part, Refusal>
+    ensures { (r : Sheet) → shows result r ≡ closed_by line.now opened (shows inner r) }
 {
-    let part = inner.part;
-    match part {
-        Part::Refused(_) => inner,
-        Part::Read { next, some } => {
-            let here = next.skip_whitespace(line);
-            let at = here.at;
-            if has(line, at, b')') {
-                return read_to(Cursor { at: at + 1 }, some, inner.counts);
-            }
-            if at < line.len() {
-                return refused(Refusal::new(Fault::ExpectedFoundOther, at, 1));
-            }
-            refused(Refusal::new(Fault::ExpectedFoundEnd, opened, 1))
-        }
+    let Part { next, some } = inner?;
+    let at = next.skip_whitespace(line).at;
+    if has(line, at, b')') {
+        return Ok(Part {
+            next: Cursor { at: at + 1 },
+            some,
+        });
     }
+    if at < line.len() {
+        return Err(Refusal::new(Fault::ExpectedFoundOther, at, 1));
+    }
+    Err(Refusal::new(Fault::ExpectedFoundEnd, opened, 1))
 }
 
-// Whether a joining word stands where the left side ended.
-fn ahead(line: &[u8], left: Progress, word: &[u8]) -> Onward
-    ensures { result ≡ onward left.part (word_ahead word.now line.now) }
+// Whether a joining word stands where the left side ended: behind it, and whether that side kept anything.
+#[tactic(auto, unfolding(crate::specs::Grammar::word_ahead))]
+fn ahead(line: &[u8], left: Result<Part, Refusal>, word: &[u8]) -> Option<(Cursor, bool)>
+    ensures { result ≡ onward left (word_ahead word.now line.now) }
 {
-    let part = left.part;
-    match part {
-        Part::Refused(_) => Onward::Stop,
-        Part::Read { next, some } => {
-            let here = next.skip_whitespace(line);
-            let end = here.take_word(line);
-            if spelled(line, here.span_to(end), word) {
-                Onward::On(end, some)
-            } else {
-                Onward::Stop
-            }
-        }
-    }
+    let Part { next, some } = left.ok()?;
+    let here = next.skip_whitespace(line);
+    let end = here.take_word(line);
+    spelled(line, here.span_to(end), word).then_some((end, some))
 }
 
 // The joining words stand here, as fixed byte strings, and not in the functions of the cycle.
-pub fn ahead_and(line: &[u8], left: Progress) -> Onward
-    ensures { result ≡ onward left.part (word_ahead and_word line.now) }
+pub fn ahead_and(line: &[u8], left: Result<Part, Refusal>) -> Option<(Cursor, bool)>
+    ensures { result ≡ onward left (word_ahead and_word line.now) }
 {
     ahead(line, left, b"and")
 }
 
-pub fn ahead_or(line: &[u8], left: Progress) -> Onward
-    ensures { result ≡ onward left.part (word_ahead or_word line.now) }
+pub fn ahead_or(line: &[u8], left: Result<Part, Refusal>) -> Option<(Cursor, bool)>
+    ensures { result ≡ onward left (word_ahead or_word line.now) }
 {
     ahead(line, left, b"or")
 }
 
 // The right side, with the joining word where both sides kept something.
-pub fn join(some_left: bool, right: Progress, words: &mut Words, word: u8) -> Progress
-    requires { some_left ≡ true → Slack true right }
-    ensures { (cs ws : List ℕ) → shows result cs ws words.new
-        ≡ joined some_left (shows right cs ws words.old) word }
+// The word is the byte that the program has and C reads, as the definition `joined` names it.
+#[tactic(auto, unfolding(crate::specs::inner::Steps::joined, crate::specs::inner::Steps::Slack))]
+pub fn join(
+    some_left: bool,
+    right: Result<Part, Refusal>,
+    sheet: &mut Sheet,
+    word: u8,
+) -> Result<Part, Refusal>
+    requires { some_left ≡ true → Slack true (shows right sheet.old) }
+    ensures { shows result sheet.new ≡ joined some_left (shows right sheet.old) word }
 {
-    let part = right.part;
-    match part {
-        Part::Refused(_) => right,
-        Part::Read { next, some } => {
-            let counts = right.counts;
-            if some_left {
-                if some {
-                    let n = push(words, counts, word);
-                    read_to(next, true, n)
-                } else {
-                    read_to(next, true, counts)
-                }
-            } else {
-                right
-            }
-        }
+    let Part { next, some } = right?;
+    if some_left && some {
+        sheet.push(word);
     }
+    Ok(Part {
+        next,
+        some: some_left || some,
+    })
 }
 
 // The whole marker: nothing may follow, and where nothing was kept the program is the one word 66.
-pub fn finish(line: &[u8], whole: Progress, words: &mut Words) -> Progress
-    requires { Slack false whole }
-    ensures { (cs ws : List ℕ) → shows result cs ws words.new
-        ≡ finished line.now (shows whole cs ws words.old) }
+#[tactic(auto, unfolding(crate::specs::inner::Steps::finished, crate::specs::inner::Steps::Slack))]
+pub fn finish(line: &[u8], whole: Result<Part, Refusal>, sheet: &mut Sheet) -> Result<Part, Refusal>
+    requires { Slack false (shows whole sheet.old) }
+    ensures { shows result sheet.new ≡ finished line.now (shows whole sheet.old) }
 {
-    let part = whole.part;
-    match part {
-        Part::Refused(_) => whole,
-        Part::Read { next, some } => {
-            let here = next.skip_whitespace(line);
-            let at = here.at;
-            if at < line.len() {
-                return refused(Refusal::new(Fault::MarkerGoesOn, at, line.len() - at - 1));
-            }
-            if some {
-                whole
-            } else {
-                let counts = whole.counts;
-                let n = push(words, counts, 66);
-                read_to(next, some, n)
-            }
-        }
+    let Part { next, some } = whole?;
+    let at = next.skip_whitespace(line).at;
+    if at < line.len() {
+        return Err(Refusal::new(Fault::MarkerGoesOn, at, line.len() - at - 1));
     }
+    if !some {
+        sheet.push(66);
+    }
+    whole
 }

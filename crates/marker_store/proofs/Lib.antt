@@ -2,5 +2,3 @@
 pub mod Own
 -- arrays that hold the numbers of a list, and what is loaded from them
 pub mod Held
--- for the two functions that store
-mod Stores

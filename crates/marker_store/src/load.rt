@@ -11,6 +11,7 @@ use crate::room::{
 use marker_kind::{Comparison, key_of, operator_of, sort_of};
 use refusal::{Offset, Span};
 
+#[tactic(auto, unfolding(crate::specs::Numbers::comparison_in))]
 pub fn load_comparison(comps: &Comparisons, n: usize) -> Comparison
     requires { n < max_comparisons }
     ensures { result ≡ comparison_in comps.now n }
@@ -28,6 +29,7 @@ pub fn load_comparison(comps: &Comparisons, n: usize) -> Comparison
     }
 }
 
+#[tactic(auto, unfolding(crate::specs::Numbers::warning_in))]
 pub fn load_warning(warns: &Warnings, n: usize) -> Warning
     requires { n < max_comparisons }
     ensures { result ≡ warning_in warns.now n }

@@ -1,4 +1,4 @@
-// The widths, places and rooms of the arrays, each once.
+// The widths, places and rooms of the arrays, each once. They are flat arrays of numbers because C lends them so.
 use cursor::Cursor;
 use program_check::MAX_WORDS;
 

@@ -10,31 +10,26 @@ use crate::room::{
 };
 use marker_kind::{Comparison, key_code, operator_code, sort_code};
 
+#[tactic(auto, unfolding(crate::specs::Numbers::put_comparison))]
 pub fn store_comparison(comps: &mut Comparisons, n: usize, comparison: Comparison)
     requires { n < max_comparisons }
     ensures { comps.new ≡ put_comparison comps.old n comparison }
 {
-    let sort = comparison.sort;
-    let key = comparison.key;
-    let operator = comparison.operator;
-    let literal = comparison.literal;
-    let start = literal.start;
     let at = COMPARISON_NUMBERS * n;
-    comps[at + SORT] = sort_code(sort);
-    comps[at + KEY] = key_code(key);
-    comps[at + OPERATOR] = operator_code(operator);
-    comps[at + LITERAL_START] = start.0;
-    comps[at + LITERAL_LENGTH] = literal.len;
+    comps[at + SORT] = sort_code(comparison.sort);
+    comps[at + KEY] = key_code(comparison.key);
+    comps[at + OPERATOR] = operator_code(comparison.operator);
+    comps[at + LITERAL_START] = comparison.literal.start.0;
+    comps[at + LITERAL_LENGTH] = comparison.literal.len;
 }
 
+#[tactic(auto, unfolding(crate::specs::Numbers::put_warning))]
 pub fn store_warning(warns: &mut Warnings, n: usize, warning: Warning)
     requires { n < max_comparisons }
     ensures { warns.new ≡ put_warning warns.old n warning }
 {
-    let span = warning.span;
-    let start = span.start;
     let at = WARNING_NUMBERS * n;
     warns[at + KIND] = warning.kind;
-    warns[at + SPAN_START] = start.0;
-    warns[at + SPAN_LENGTH] = span.len;
+    warns[at + SPAN_START] = warning.span.start.0;
+    warns[at + SPAN_LENGTH] = warning.span.len;
 }

@@ -1,19 +1,19 @@
 // What was read, as typed lists in arrays.
-ghost use Rattle.std.specs.Prelude.{◌≡◌, ◌≤◌};
+ghost use Rattle.std.specs.Prelude.{◌≡◌, ◌≤◌, ◌<◌, ℕ, map};
+ghost use Rattle.std.specs.List.{range_with_len};
 ghost use Rattle.arrays.specs.Front.{pad};
 ghost use Rattle.marker_steps.specs.Marking.{nothing};
-ghost use Rattle.marker_store.specs.Numbers.{comparison_in, warning_in};
 ghost use Rattle.cursor.specs.Limits.{max_comparisons};
-ghost use Rattle.marker_typed.specs.Lists.{no_comparison, no_warning, lists_of};
-ghost use Rattle.marker_typed.specs.inner.Gather.{up_to, gathered};
+ghost use Rattle.marker_typed.specs.Lists.{lists_of};
+ghost use Rattle.marker_typed.specs.inner.Gather.{gathered};
 
 use cursor::Cursor;
 use marker_kind::{Comparison, Key, Operator, Sort};
-use marker_store::{Comparisons, Counts, Warning, Warnings, Words, load_comparison, load_warning};
+use marker_store::{Counts, Sheet, Warning, Words, load_comparison, load_warning};
 use program_check::MAX_WORDS;
 use refusal::{Offset, Span};
 
-// Each array holds as many entries as its count says, and filler behind them.
+// Each array holds as many entries as its count says, and filler behind them: arrays and counts, since nothing here is on a heap.
 #[derive(Drop)]
 pub struct Lists {
     pub comparisons: [Comparison; Cursor::MAX_COMPARISONS],
@@ -22,82 +22,70 @@ pub struct Lists {
     pub counts: Counts,
 }
 
-fn no_comparison() -> Comparison
-    ensures { result ≡ no_comparison }
-{
-    let literal = Span {
-        start: Offset(0),
-        len: 0,
-    };
-    Comparison {
-        sort: Sort::Version,
-        key: Key::PythonVersion,
-        operator: Operator::Equal,
-        literal,
-    }
-}
+const NO_SPAN: Span = Span {
+    start: Offset(0),
+    len: 0,
+};
 
-fn no_warning() -> Warning
-    ensures { result ≡ no_warning }
-{
-    let span = Span {
-        start: Offset(0),
-        len: 0,
-    };
-    Warning { kind: 0, span }
-}
+const NO_COMPARISON: Comparison = Comparison {
+    sort: Sort::Version,
+    key: Key::PythonVersion,
+    operator: Operator::Equal,
+    literal: NO_SPAN,
+};
 
+const NO_WARNING: Warning = Warning {
+    kind: 0,
+    span: NO_SPAN,
+};
+
+#[tactic(auto, unfolding(crate::specs::Lists::lists_of))]
 pub fn empty_lists() -> Lists
     ensures { result ≡ lists_of nothing }
 {
-    let counts = Counts {
-        kept: 0,
-        warned: 0,
-        words: 0,
-    };
     Lists {
-        comparisons: [no_comparison(); Cursor::MAX_COMPARISONS],
-        warnings: [no_warning(); Cursor::MAX_COMPARISONS],
-        words: [0u8; MAX_WORDS],
-        counts,
+        comparisons: [NO_COMPARISON; Cursor::MAX_COMPARISONS],
+        warnings: [NO_WARNING; Cursor::MAX_COMPARISONS],
+        words: [0; MAX_WORDS],
+        counts: Counts::default(),
     }
 }
 
-fn gather_comparisons(comps: &Comparisons, kept: usize) -> [Comparison; Cursor::MAX_COMPARISONS]
-    requires { kept ≤ max_comparisons }
-    ensures { result ≡ pad max_comparisons no_comparison (up_to (comparison_in comps.now) kept) }
+// As many entries as are counted, each by its number, and filler behind them.
+fn filled<T: Copy, F: Fn(usize) -> T>(
+    count: usize,
+    filler: T,
+    entry: F,
+) -> [T; Cursor::MAX_COMPARISONS]
+    requires room { count ≤ max_comparisons }
+    requires entries { (i : ℕ) → i < count → F.pre entry i }
+    ensures { (f : ℕ → T) → ((i : ℕ) → (x : T) → F.post entry i x → x ≡ f i)
+        → result ≡ pad max_comparisons filler (map f (range_with_len 0 count)) }
 {
-    let mut all = [no_comparison(); Cursor::MAX_COMPARISONS];
-    let mut i = 0;
-    while i < kept {
-        all[i] = load_comparison(comps, i);
-        i += 1;
+    let mut all = [filler; Cursor::MAX_COMPARISONS];
+    for i in 0..count {
+        all[i] = entry(i);
     }
     all
 }
 
-fn gather_warnings(warns: &Warnings, warned: usize) -> [Warning; Cursor::MAX_COMPARISONS]
-    requires { warned ≤ max_comparisons }
-    ensures { result ≡ pad max_comparisons no_warning (up_to (warning_in warns.now) warned) }
+// The numbers of a sheet as typed lists.
+pub fn gather(sheet: &Sheet) -> Lists
+    requires { (sheet.now.counts.kept ≤ max_comparisons)
+        × (sheet.now.counts.warned ≤ max_comparisons) }
+    ensures { result ≡ gathered sheet.now }
 {
-    let mut all = [no_warning(); Cursor::MAX_COMPARISONS];
-    let mut i = 0;
-    while i < warned {
-        all[i] = load_warning(warns, i);
-        i += 1;
-    }
-    all
-}
-
-// The arrays of numbers as typed lists.
-pub fn gather(comps: &Comparisons, warns: &Warnings, words: Words, counts: Counts) -> Lists
-    requires { (counts.kept ≤ max_comparisons) × (counts.warned ≤ max_comparisons) }
-    ensures { result ≡ gathered comps.now warns.now words counts }
-{
+    let counts = sheet.counts;
     Lists {
-        comparisons: gather_comparisons(comps, counts.kept),
-        warnings: gather_warnings(warns, counts.warned),
-        words,
+        comparisons: filled(counts.kept, NO_COMPARISON, |i| {
+            load_comparison(&sheet.comparisons, i)
+        }),
+        warnings: filled(
+            counts.warned,
+            NO_WARNING,
+            |i| load_warning(&sheet.warnings, i),
+        ),
+        words: sheet.words,
         counts,
     }
 }

@@ -4,5 +4,5 @@
 mod door;
 mod gather;
 
-pub use door::{Marker, read_marker, read_marker_from};
+pub use door::{read_marker, read_marker_from};
 pub use gather::{Lists, empty_lists};

@@ -1,3 +1,3 @@
-pub mod Laws
 pub mod Operators
+pub mod Tables
 pub mod Values

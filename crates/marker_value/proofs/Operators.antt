@@ -4,21 +4,23 @@ use mathlib.Core.List.{List}
 use Prim.Native.Nat.{ℕ, ◌+◌, ◌-◌, ◌≤◌}
 use native.Mathlib.Omega.{arith}
 use lib.Dec.{eqb}
+use Rattle.std.specs.Prelude.{Option, Some, None, Result, Ok, Err}
+use Rattle.cursor.specs.declared.cursor.Cursor.{Cursor}
+use Rattle.marker_kind.specs.declared.kind.Operator.{Operator}
 use Rattle.refusal.specs.Refusal.{span}
+use Rattle.refusal.specs.declared.fault.Refusal.{Refusal}
 use Rattle.text.proofs.Reach.{skip_from}
 use Rattle.text.specs.Class.{is_letter, is_space, is_operator_byte, is_operator_word_byte}
 use Rattle.text.specs.Scan.{skip, byte_at}
 use Rattle.text.specs.Word.{bytes, spells}
 use Rattle.marker_value.specs.Operator.{symbol_in, took_symbol, symbol_at, in_at, not_at, word_at, operator_at}
-use Rattle.marker_value.specs.declared.operator.Between.{Between}
-use Rattle.marker_value.specs.declared.operator.Symbol.{Symbol}
 
 -- an operator, where there is one, ends at a place or behind it
-abbrev pub Behind : ℕ → Between → Type 0
-Behind at (Between.Operator op next) = at ≤ next.at
-Behind at (Between.Fault why) = Unit {0}
+abbrev pub Behind : ℕ → Result (Operator × Cursor) Refusal → Type 0
+Behind at (Ok (op, next)) = at ≤ next.at
+Behind at (Err why) = Unit {0}
 
-by_test : (at : ℕ) (t : Bool) (x y : Between) → Behind at x → Behind at y → Behind at (cond t x y)
+by_test : (at : ℕ) (t : Bool) (x y : Result (Operator × Cursor) Refusal) → Behind at x → Behind at y → Behind at (cond t x y)
 by_test at true x y h l = h
 by_test at false x y h l = l
 
@@ -26,9 +28,9 @@ symbol_behind : (s : List ℕ) (at : ℕ) → Behind at (symbol_at s at)
 unfolding symbol_at
 symbol_behind s at = go (symbol_in s (span at (skip is_operator_byte s at - at)))
   where
-    go : (found : Symbol) → Behind at (took_symbol found at (skip is_operator_byte s at))
-    go (Symbol.Known op) = skip_from is_operator_byte s at
-    go Symbol.Unknown = tt
+    go : (found : Option Operator) → Behind at (took_symbol found at (skip is_operator_byte s at))
+    go (Some op) = skip_from is_operator_byte s at
+    go None = tt
 
 in_behind : (s : List ℕ) (at from : ℕ) → at ≤ from → Behind at (in_at s from)
 unfolding in_at

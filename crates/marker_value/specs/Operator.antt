@@ -1,7 +1,9 @@
 -- "Operator token: if the next byte is a letter, up to whitespace or a quote; else the run of `< = > ~ !`."
-use Rattle.std.specs.Prelude.{ℕ, ◌+◌, ◌-◌, cond, List, ltb, eqb, length}
+use Rattle.std.specs.Prelude.{ℕ, ◌+◌, ◌-◌, cond, List, ltb, eqb, length, Option, Some, None, Result, Ok, Err}
 use Prim.Native.Char.{code}
 use Rattle.cursor.specs.Cursor.{cursor}
+use Rattle.cursor.specs.declared.cursor.Cursor.{Cursor}
+use Rattle.marker_kind.specs.declared.kind.Operator.{Operator}
 use Rattle.marker_kind.specs.declared.kind.Operator.TheVariants.{Equal, NotEqual, Less, LessEqual, Greater, GreaterEqual, Compatible, In, NotIn}
 use Rattle.refusal.specs.Refusal.{span, refusal}
 use Rattle.refusal.specs.declared.fault.Fault.TheVariants.{OperatorUnknown, NotUnspaced, ExpectedFoundEnd, ExpectedFoundOther}
@@ -10,58 +12,58 @@ use Rattle.refusal.specs.declared.place.Span.{Span}
 use Rattle.text.specs.Class.{is_letter, is_space, is_operator_byte, is_operator_word_byte}
 use Rattle.text.specs.Scan.{skip, byte_at}
 use Rattle.text.specs.Word.{bytes, spells}
-use Rattle.marker_value.specs.declared.operator.Between.{Between}
-use Rattle.marker_value.specs.declared.operator.Symbol.{Symbol}
-use Rattle.marker_value.specs.declared.operator.Symbol.TheVariants.{Known, Unknown}
 
 -- "Known: `== != < <= > >= ~= in`.": the last three that are no word, and before them the first four
-unfoldable pub later_symbol_in : List ℕ → Span → Symbol
+unfoldable pub later_symbol_in : List ℕ → Span → Option Operator
 later_symbol_in s at =
-    cond (spells (bytes ">") s at) (Known Greater)
-    (cond (spells (bytes ">=") s at) (Known GreaterEqual)
-    (cond (spells (bytes "~=") s at) (Known Compatible)
-    Unknown))
+    cond (spells (bytes ">") s at) (Some Greater)
+    (cond (spells (bytes ">=") s at) (Some GreaterEqual)
+    (cond (spells (bytes "~=") s at) (Some Compatible)
+    None))
 
-unfoldable pub symbol_in : List ℕ → Span → Symbol
+unfoldable pub symbol_in : List ℕ → Span → Option Operator
 symbol_in s at =
-    cond (spells (bytes "==") s at) (Known Equal)
-    (cond (spells (bytes "!=") s at) (Known NotEqual)
-    (cond (spells (bytes "<") s at) (Known Less)
-    (cond (spells (bytes "<=") s at) (Known LessEqual)
+    cond (spells (bytes "==") s at) (Some Equal)
+    (cond (spells (bytes "!=") s at) (Some NotEqual)
+    (cond (spells (bytes "<") s at) (Some Less)
+    (cond (spells (bytes "<=") s at) (Some LessEqual)
     (later_symbol_in s at))))
 
 -- "20: operator token unknown: token"
-abbrev pub took_symbol : Symbol → ℕ → ℕ → Between
-took_symbol (Known operator) at end = Between.Operator operator (cursor end)
-took_symbol Unknown at end = Between.Fault (refusal OperatorUnknown at (end - at))
+abbrev pub took_symbol : Option Operator → ℕ → ℕ → Result (Operator × Cursor) Refusal
+took_symbol (Some operator) at end = Ok (operator, cursor end)
+took_symbol None at end = Err (refusal OperatorUnknown at (end - at))
 
 -- "else the run of `< = > ~ !`"
-unfoldable pub symbol_at : List ℕ → ℕ → Between
+unfoldable pub symbol_at : List ℕ → ℕ → Result (Operator × Cursor) Refusal
 symbol_at s at = let end = skip is_operator_byte s at in took_symbol (symbol_in s (span at (end - at))) at end
 
 -- "22: expected byte, found the end: .. or the end for `i`, `n`; 1"; "23: expected byte, found another: it, 1"
 abbrev pub expected_at : List ℕ → ℕ → Refusal
 expected_at s at = cond (ltb at (length s)) (refusal ExpectedFoundOther at 1) (refusal ExpectedFoundEnd at 1)
 
+abbrev pub expect_at : List ℕ → ℕ → ℕ → Result Cursor Refusal
+expect_at s at wanted = cond (eqb (byte_at s at) wanted) (Ok (cursor (at + 1))) (Err (expected_at s at))
+
 -- "then `i`, `n`; nothing need follow `in`"
-unfoldable pub in_at : List ℕ → ℕ → Between
+unfoldable pub in_at : List ℕ → ℕ → Result (Operator × Cursor) Refusal
 in_at s at =
     let second = at + 1 in
-    cond (eqb (byte_at s at) (code "i")) (cond (eqb (byte_at s second) (code "n")) (Between.Operator NotIn (cursor (second + 1))) (Between.Fault (expected_at s second)))
-    (Between.Fault (expected_at s at))
+    cond (eqb (byte_at s at) (code "i")) (cond (eqb (byte_at s second) (code "n")) (Ok (NotIn, cursor (second + 1))) (Err (expected_at s second)))
+    (Err (expected_at s at))
 
 -- "`not` needs whitespace after it"; "21: no whitespace after `not`: that byte or end, 1"
-unfoldable pub not_at : List ℕ → ℕ → Between
-not_at s end = cond (is_space (byte_at s end)) (in_at s (skip is_space s end)) (Between.Fault (refusal NotUnspaced end 1))
+unfoldable pub not_at : List ℕ → ℕ → Result (Operator × Cursor) Refusal
+not_at s end = cond (is_space (byte_at s end)) (in_at s (skip is_space s end)) (Err (refusal NotUnspaced end 1))
 
 -- "if the next byte is a letter, up to whitespace or a quote"; "20: operator token unknown: token"
-unfoldable pub word_at : List ℕ → ℕ → Between
+unfoldable pub word_at : List ℕ → ℕ → Result (Operator × Cursor) Refusal
 word_at s at =
     let end = skip is_operator_word_byte s at in
     cond (spells (bytes "not") s (span at (end - at))) (not_at s end)
-    (cond (spells (bytes "in") s (span at (end - at))) (Between.Operator In (cursor end))
-    (Between.Fault (refusal OperatorUnknown at (end - at))))
+    (cond (spells (bytes "in") s (span at (end - at))) (Ok (In, cursor end))
+    (Err (refusal OperatorUnknown at (end - at))))
 
 -- the next byte decides which of the two
-unfoldable pub operator_at : List ℕ → ℕ → Between
+unfoldable pub operator_at : List ℕ → ℕ → Result (Operator × Cursor) Refusal
 operator_at s at = cond (is_letter (byte_at s at)) (word_at s at) (symbol_at s at)

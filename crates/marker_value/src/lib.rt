@@ -2,7 +2,8 @@
 #![tactic(auto)]
 
 mod operator;
+mod table;
 mod value;
 
-pub use operator::{Between, operator_at};
-pub use value::{Taken, Value, value_at};
+pub use operator::operator_at;
+pub use value::{Value, value_at};

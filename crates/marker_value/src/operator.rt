@@ -1,116 +1,79 @@
 // The operator between two values.
-ghost use Rattle.std.specs.Prelude.{◌≡◌};
+ghost use Rattle.std.specs.Prelude.{◌≡◌, ◌<◌};
 ghost use Rattle.text.specs.Class.{is_letter, is_space};
 ghost use Rattle.text.specs.Scan.{byte_at};
-ghost use Rattle.marker_value.specs.Operator.{later_symbol_in, symbol_in, symbol_at, expected_at, in_at, not_at, word_at, operator_at};
+ghost use Rattle.marker_value.specs.Operator.{symbol_in, symbol_at, expect_at, in_at, not_at, word_at, operator_at};
 
+use crate::table::among;
 use cursor::Cursor;
 use marker_kind::Operator;
 use refusal::{Fault, Refusal, Span};
-use text::{byte_at, has, is_letter, is_space, spelled};
+use text::{byte_at, is_letter, is_space, spelled};
 
-#[derive(Clone, Copy)]
-pub enum Symbol {
-    Known(Operator),
-    Unknown,
-}
+// Document 01's operators that are no words.
+const SYMBOLS: [(&[u8], Operator); 7] = [
+    (b"==", Operator::Equal),
+    (b"!=", Operator::NotEqual),
+    (b"<", Operator::Less),
+    (b"<=", Operator::LessEqual),
+    (b">", Operator::Greater),
+    (b">=", Operator::GreaterEqual),
+    (b"~=", Operator::Compatible),
+];
 
-#[derive(Clone, Copy)]
-pub enum Between {
-    Operator(Operator, Cursor),
-    Fault(Refusal),
-}
-
-fn letter_at(line: &[u8], at: usize) -> bool
-    ensures { result ≡ is_letter (byte_at line.now at) }
-{
-    is_letter(byte_at(line, at))
-}
-
-fn space_at(line: &[u8], at: usize) -> bool
-    ensures { result ≡ is_space (byte_at line.now at) }
-{
-    is_space(byte_at(line, at))
-}
-
-fn later_symbol_in(line: &[u8], span: Span) -> Symbol
-    ensures { result ≡ later_symbol_in line.now span }
-{
-    if spelled(line, span, b">") {
-        return Symbol::Known(Operator::Greater);
-    }
-    if spelled(line, span, b">=") {
-        return Symbol::Known(Operator::GreaterEqual);
-    }
-    if spelled(line, span, b"~=") {
-        return Symbol::Known(Operator::Compatible);
-    }
-    Symbol::Unknown
-}
-
-fn symbol_in(line: &[u8], span: Span) -> Symbol
+#[tactic(auto, unfolding(crate::specs::Operator::symbol_in, crate::specs::Operator::later_symbol_in))]
+fn symbol_in(line: &[u8], span: Span) -> Option<Operator>
     ensures { result ≡ symbol_in line.now span }
 {
-    if spelled(line, span, b"==") {
-        return Symbol::Known(Operator::Equal);
-    }
-    if spelled(line, span, b"!=") {
-        return Symbol::Known(Operator::NotEqual);
-    }
-    if spelled(line, span, b"<") {
-        return Symbol::Known(Operator::Less);
-    }
-    if spelled(line, span, b"<=") {
-        return Symbol::Known(Operator::LessEqual);
-    }
-    later_symbol_in(line, span)
+    among(line, span, &SYMBOLS)
 }
 
-fn symbol_at(line: &[u8], cur: Cursor) -> Between
+// `named_at` of value.rt is like it: a function for both would take the scan, the table and the fault, and be no plainer.
+#[tactic(auto, unfolding(crate::specs::Operator::symbol_at))]
+fn symbol_at(line: &[u8], cur: Cursor) -> Result<(Operator, Cursor), Refusal>
     ensures { result ≡ symbol_at line.now cur.at }
 {
     let end = cur.take_operator(line);
     let token = cur.span_to(end);
-    match symbol_in(line, token) {
-        Symbol::Known(operator) => Between::Operator(operator, end),
-        Symbol::Unknown => Between::Fault(Refusal::new(Fault::OperatorUnknown, cur.at, token.len)),
-    }
+    let unknown = Refusal::new(Fault::OperatorUnknown, cur.at, token.len);
+    let operator = symbol_in(line, token).ok_or(unknown)?;
+    Ok((operator, end))
 }
 
-// The fault where another byte was expected than stands at a place.
-fn expected_at(line: &[u8], at: usize) -> Refusal
-    ensures { result ≡ expected_at line.now at }
+// The place behind a byte, not 0, that must stand here.
+fn expect(line: &[u8], cur: Cursor, wanted: u8) -> Result<Cursor, Refusal>
+    requires { 0 < wanted }
+    ensures { result ≡ expect_at line.now cur.at wanted }
 {
-    if at < line.len() {
-        return Refusal::new(Fault::ExpectedFoundOther, at, 1);
+    match cur.next(line) {
+        Some((byte, next)) if byte == wanted => Ok(next),
+        Some(_) => Err(Refusal::new(Fault::ExpectedFoundOther, cur.at, 1)),
+        None => Err(Refusal::new(Fault::ExpectedFoundEnd, cur.at, 1)),
     }
-    Refusal::new(Fault::ExpectedFoundEnd, at, 1)
 }
 
 // `in`, behind `not` and white space: nothing need follow it.
-fn in_at(line: &[u8], at: usize) -> Between
-    ensures { result ≡ in_at line.now at }
+#[tactic(auto, unfolding(crate::specs::Operator::in_at))]
+fn in_at(line: &[u8], cur: Cursor) -> Result<(Operator, Cursor), Refusal>
+    ensures { result ≡ in_at line.now cur.at }
 {
-    if has(line, at, b'i') {
-        let second = at + 1;
-        if has(line, second, b'n') {
-            return Between::Operator(Operator::NotIn, Cursor { at: second + 1 });
-        }
-        return Between::Fault(expected_at(line, second));
-    }
-    Between::Fault(expected_at(line, at))
+    let second = expect(line, cur, b'i')?;
+    let end = expect(line, second, b'n')?;
+    Ok((Operator::NotIn, end))
 }
 
-fn not_at(line: &[u8], end: Cursor) -> Between
+#[tactic(auto, unfolding(crate::specs::Operator::not_at))]
+fn not_at(line: &[u8], end: Cursor) -> Result<(Operator, Cursor), Refusal>
     ensures { result ≡ not_at line.now end.at }
 {
-    if space_at(line, end.at) {
-        return in_at(line, end.skip_whitespace(line).at);
+    if is_space(byte_at(line, end.at)) {
+        return in_at(line, end.skip_whitespace(line));
     }
-    Between::Fault(Refusal::new(Fault::NotUnspaced, end.at, 1))
+    Err(Refusal::new(Fault::NotUnspaced, end.at, 1))
 }
 
-fn word_at(line: &[u8], cur: Cursor) -> Between
+#[tactic(auto, unfolding(crate::specs::Operator::word_at))]
+fn word_at(line: &[u8], cur: Cursor) -> Result<(Operator, Cursor), Refusal>
     ensures { result ≡ word_at line.now cur.at }
 {
     let end = cur.take_operator_word(line);
@@ -119,15 +82,16 @@ fn word_at(line: &[u8], cur: Cursor) -> Between
         return not_at(line, end);
     }
     if spelled(line, token, b"in") {
-        return Between::Operator(Operator::In, end);
+        return Ok((Operator::In, end));
     }
-    Between::Fault(Refusal::new(Fault::OperatorUnknown, cur.at, token.len))
+    Err(Refusal::new(Fault::OperatorUnknown, cur.at, token.len))
 }
 
-pub fn operator_at(line: &[u8], cur: Cursor) -> Between
+#[tactic(auto, unfolding(crate::specs::Operator::operator_at))]
+pub fn operator_at(line: &[u8], cur: Cursor) -> Result<(Operator, Cursor), Refusal>
     ensures { result ≡ operator_at line.now cur.at }
 {
-    if letter_at(line, cur.at) {
+    if is_letter(byte_at(line, cur.at)) {
         return word_at(line, cur);
     }
     symbol_at(line, cur)

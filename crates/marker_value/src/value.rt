@@ -2,14 +2,15 @@
 ghost use Rattle.std.specs.Prelude.{◌≡◌, ◌<◌, length};
 ghost use Rattle.text.specs.Class.{is_quote};
 ghost use Rattle.text.specs.Scan.{byte_at};
-ghost use Rattle.marker_value.specs.Value.{version_name_in, string_name_in, last_name_in, quoted_at, named_at, value_at};
+ghost use Rattle.marker_value.specs.Value.{version_name_in, quoted_at, named_at, value_at};
 
+use crate::table::among;
 use cursor::Cursor;
 use marker_kind::Key;
 use refusal::{Fault, Refusal, Span};
-use text::{byte_at, is_quote, spelled};
+use text::{byte_at, is_quote};
 
-#[derive(Clone, Copy)]
+#[derive(Clone, Copy, Debug, PartialEq, Eq)]
 pub enum Value {
     Version(Key),
     String(Key),
@@ -17,111 +18,74 @@ pub enum Value {
     Quoted(Span),
 }
 
-// Which value a name is, if it is one of the twelve.
-#[derive(Clone, Copy)]
-pub enum Named {
-    Known(Value),
-    Unknown,
-}
+// The twelve names, in document 01's order.
+const NAMES: [(&[u8], Value); 12] = [
+    (b"python_version", Value::Version(Key::PythonVersion)),
+    (
+        b"python_full_version",
+        Value::Version(Key::PythonFullVersion),
+    ),
+    (
+        b"implementation_version",
+        Value::Version(Key::ImplementationVersion),
+    ),
+    (b"os_name", Value::String(Key::OsName)),
+    (b"sys_platform", Value::String(Key::SysPlatform)),
+    (b"platform_release", Value::String(Key::PlatformRelease)),
+    (b"platform_system", Value::String(Key::PlatformSystem)),
+    (b"platform_version", Value::String(Key::PlatformVersion)),
+    (b"platform_machine", Value::String(Key::PlatformMachine)),
+    (
+        b"platform_python_implementation",
+        Value::String(Key::PlatformPythonImplementation),
+    ),
+    (
+        b"implementation_name",
+        Value::String(Key::ImplementationName),
+    ),
+    (b"extra", Value::Extra),
+];
 
-#[derive(Clone, Copy)]
-pub enum Taken {
-    Value(Value, Cursor),
-    Fault(Refusal),
-}
-
-fn quote_at(line: &[u8], at: usize) -> bool
-    ensures { result ≡ is_quote (byte_at line.now at) }
-{
-    is_quote(byte_at(line, at))
-}
-
-fn last_name_in(line: &[u8], span: Span) -> Named
-    ensures { result ≡ last_name_in line.now span }
-{
-    if spelled(line, span, b"platform_machine") {
-        return Named::Known(Value::String(Key::PlatformMachine));
-    }
-    if spelled(line, span, b"platform_python_implementation") {
-        return Named::Known(Value::String(Key::PlatformPythonImplementation));
-    }
-    if spelled(line, span, b"implementation_name") {
-        return Named::Known(Value::String(Key::ImplementationName));
-    }
-    if spelled(line, span, b"extra") {
-        return Named::Known(Value::Extra);
-    }
-    Named::Unknown
-}
-
-fn string_name_in(line: &[u8], span: Span) -> Named
-    ensures { result ≡ string_name_in line.now span }
-{
-    if spelled(line, span, b"os_name") {
-        return Named::Known(Value::String(Key::OsName));
-    }
-    if spelled(line, span, b"sys_platform") {
-        return Named::Known(Value::String(Key::SysPlatform));
-    }
-    if spelled(line, span, b"platform_release") {
-        return Named::Known(Value::String(Key::PlatformRelease));
-    }
-    if spelled(line, span, b"platform_system") {
-        return Named::Known(Value::String(Key::PlatformSystem));
-    }
-    if spelled(line, span, b"platform_version") {
-        return Named::Known(Value::String(Key::PlatformVersion));
-    }
-    last_name_in(line, span)
-}
-
-fn version_name_in(line: &[u8], span: Span) -> Named
+#[tactic(auto, unfolding(crate::specs::Value::version_name_in, crate::specs::Value::string_name_in, crate::specs::Value::last_name_in))]
+fn name_in(line: &[u8], span: Span) -> Option<Value>
     ensures { result ≡ version_name_in line.now span }
 {
-    if spelled(line, span, b"python_version") {
-        return Named::Known(Value::Version(Key::PythonVersion));
-    }
-    if spelled(line, span, b"python_full_version") {
-        return Named::Known(Value::Version(Key::PythonFullVersion));
-    }
-    if spelled(line, span, b"implementation_version") {
-        return Named::Known(Value::Version(Key::ImplementationVersion));
-    }
-    string_name_in(line, span)
+    among(line, span, &NAMES)
 }
 
-fn named_at(line: &[u8], cur: Cursor) -> Taken
+#[tactic(auto, unfolding(crate::specs::Value::named_at))]
+fn named_at(line: &[u8], cur: Cursor) -> Result<(Value, Cursor), Refusal>
     ensures { result ≡ named_at line.now cur.at }
 {
     let end = cur.take_token(line);
     let token = cur.span_to(end);
-    match version_name_in(line, token) {
-        Named::Known(value) => Taken::Value(value, end),
-        Named::Unknown => Taken::Fault(Refusal::new(Fault::ValueUnknown, cur.at, token.len)),
-    }
+    let unknown = Refusal::new(Fault::ValueUnknown, cur.at, token.len);
+    let value = name_in(line, token).ok_or(unknown)?;
+    Ok((value, end))
 }
 
-fn quoted_at(line: &[u8], cur: Cursor) -> Taken
+#[tactic(auto, unfolding(crate::specs::Value::quoted_at))]
+fn quoted_at(line: &[u8], cur: Cursor) -> Result<(Value, Cursor), Refusal>
     requires { cur.at < length line.now }
     ensures { result ≡ quoted_at line.now cur.at }
 {
     let inside = Cursor { at: cur.at + 1 };
     let close = inside.take_to_quote(line, byte_at(line, cur.at));
-    if close.at < line.len() {
-        let text = inside.span_to(close);
-        return Taken::Value(Value::Quoted(text), Cursor { at: close.at + 1 });
-    }
-    Taken::Fault(Refusal::new(Fault::ExpectedFoundEnd, cur.at, 1))
+    let text = inside.span_to(close);
+    let unclosed = Refusal::new(Fault::ExpectedFoundEnd, cur.at, 1);
+    let (_, end) = close.next(line).ok_or(unclosed)?;
+    Ok((Value::Quoted(text), end))
 }
 
-pub fn value_at(line: &[u8], cur: Cursor) -> Taken
+#[tactic(auto, unfolding(crate::specs::Value::value_at))]
+pub fn value_at(line: &[u8], cur: Cursor) -> Result<(Value, Cursor), Refusal>
     ensures { result ≡ value_at line.now cur.at }
 {
-    if cur.at < line.len() {
-        if quote_at(line, cur.at) {
-            return quoted_at(line, cur);
-        }
-        return named_at(line, cur);
+    let Some(byte) = cur.peek(line) else {
+        return Err(Refusal::new(Fault::ValueMissing, line.len(), 1));
+    };
+    if is_quote(byte) {
+        return quoted_at(line, cur);
     }
-    Taken::Fault(Refusal::new(Fault::ValueMissing, line.len(), 1))
+    named_at(line, cur)
 }

@@ -1,22 +1,21 @@
 // What two values and an operator come to.
 ghost use Rattle.std.specs.Prelude.{◌≡◌};
-ghost use Rattle.marker_value.specs.Value.{Inside, ValueInside};
 ghost use Rattle.version.specs.Rules.{is_version, is_version_list};
 ghost use Rattle.marker_verdict.specs.Verdict.{text_in, mirror, is_equality, is_compatible, is_list, may_go_with, kept, bad_name, version_verdict, mirrored_verdict, string_verdict, extra_verdict, version_left, string_left, extra_left, quoted_left, verdict};
 
-use marker_kind::{Comparison, ExtraKind, Key, Operator, Sort, operator_code};
+use marker_kind::{Comparison, ExtraKind, Key, Operator, Sort, WarningKind};
 use marker_value::Value;
 use name::bad_at;
 use refusal::Span;
 use version::{goes_with, is_version, is_version_list};
 
 // A kept comparison, without a warning or with one of kind 4; or an ignored one, with one or two warnings of a kind.
-#[derive(Clone, Copy)]
+#[derive(Clone, Copy, Debug, PartialEq, Eq)]
 pub enum Verdict {
     Kept(Comparison),
     KeptWarned(Comparison),
-    Ignored(u8),
-    IgnoredTwice(u8),
+    Ignored(WarningKind),
+    IgnoredTwice(WarningKind),
 }
 
 // The operator as the other side sees it.
@@ -24,39 +23,37 @@ fn mirrored(op: Operator) -> Operator
     ensures { result ≡ mirror op }
 {
     match op {
-        Operator::Equal => Operator::Equal,
-        Operator::NotEqual => Operator::NotEqual,
         Operator::Less => Operator::Greater,
         Operator::LessEqual => Operator::GreaterEqual,
         Operator::Greater => Operator::Less,
         Operator::GreaterEqual => Operator::LessEqual,
-        Operator::Compatible => Operator::Compatible,
         Operator::In => Operator::Contains,
         Operator::NotIn => Operator::NotContains,
         Operator::Contains => Operator::In,
         Operator::NotContains => Operator::NotIn,
+        Operator::Equal | Operator::NotEqual | Operator::Compatible => op,
     }
 }
 
 fn is_equality(op: Operator) -> bool
     ensures { result ≡ is_equality op }
 {
-    operator_code(op) <= 1
+    matches!(op, Operator::Equal | Operator::NotEqual)
 }
 
 fn is_compatible(op: Operator) -> bool
     ensures { result ≡ is_compatible op }
 {
-    operator_code(op) == 6
+    matches!(op, Operator::Compatible)
 }
 
 fn is_list(op: Operator) -> bool
     ensures { result ≡ is_list op }
 {
-    let code = operator_code(op);
-    (7 <= code) & (code <= 8)
+    matches!(op, Operator::In | Operator::NotIn)
 }
 
+// The two operators are two types: a version's has `===`, a marker's has `in` and its kin. A conversion would be these lines, and an Option more.
 fn may_go_with(op: Operator, text: &[u8]) -> bool
     ensures { result ≡ may_go_with op text.now }
 {
@@ -68,54 +65,22 @@ fn may_go_with(op: Operator, text: &[u8]) -> bool
         Operator::Greater => goes_with(version::Operator::Greater, text),
         Operator::GreaterEqual => goes_with(version::Operator::GreaterEqual, text),
         Operator::Compatible => goes_with(version::Operator::Compatible, text),
-        Operator::In => false,
-        Operator::NotIn => false,
-        Operator::Contains => false,
-        Operator::NotContains => false,
+        Operator::In | Operator::NotIn | Operator::Contains | Operator::NotContains => false,
     }
 }
 
-// The four questions that are asked of a literal's text.
-fn may_go_in(line: &[u8], at: Span, op: Operator) -> bool
-    requires { Inside line.now at }
-    ensures { result ≡ may_go_with op (text_in line.now at) }
+// A literal's bytes, of which a version, a list of versions or a name is asked: as much of its span as lies in the line.
+fn text_in(line: &[u8], at: Span) -> &[u8]
+    ensures { result.now ≡ text_in line.now at }
 {
-    let from = at.start.0;
-    let to = from + at.len;
-    may_go_with(op, &line[from..to])
-}
-
-fn is_version_in(line: &[u8], at: Span) -> bool
-    requires { Inside line.now at }
-    ensures { result ≡ is_version (text_in line.now at) }
-{
-    let from = at.start.0;
-    let to = from + at.len;
-    is_version(&line[from..to])
-}
-
-fn is_list_in(line: &[u8], at: Span) -> bool
-    requires { Inside line.now at }
-    ensures { result ≡ is_version_list (text_in line.now at) }
-{
-    let from = at.start.0;
-    let to = from + at.len;
-    is_version_list(&line[from..to])
+    let rest = &line[at.start.0.min(line.len())..];
+    &rest[..at.len.min(rest.len())]
 }
 
 fn is_bad_name(name: &[u8]) -> bool
     ensures { result ≡ bad_name name.now }
 {
     bad_at(name) < name.len()
-}
-
-fn is_bad_name_in(line: &[u8], at: Span) -> bool
-    requires { Inside line.now at }
-    ensures { result ≡ bad_name (text_in line.now at) }
-{
-    let from = at.start.0;
-    let to = from + at.len;
-    is_bad_name(&line[from..to])
 }
 
 fn keeps(sort: Sort, key: Key, op: Operator, at: Span) -> Comparison
@@ -130,70 +95,65 @@ fn keeps(sort: Sort, key: Key, op: Operator, at: Span) -> Comparison
 }
 
 fn version_verdict(line: &[u8], key: Key, op: Operator, at: Span) -> Verdict
-    requires { Inside line.now at }
     ensures { result ≡ version_verdict line.now key op at }
 {
     if is_list(op) {
-        if is_list_in(line, at) {
+        if is_version_list(text_in(line, at)) {
             return Verdict::Kept(keeps(Sort::VersionList, key, op, at));
         }
-        return Verdict::IgnoredTwice(1);
+        return Verdict::IgnoredTwice(WarningKind::BadVersion);
     }
-    if may_go_in(line, at, op) {
+    if may_go_with(op, text_in(line, at)) {
         return Verdict::Kept(keeps(Sort::Version, key, op, at));
     }
-    Verdict::Ignored(1)
+    Verdict::Ignored(WarningKind::BadVersion)
 }
 
 fn mirrored_verdict(line: &[u8], key: Key, op: Operator, at: Span) -> Verdict
-    requires { Inside line.now at }
     ensures { result ≡ mirrored_verdict line.now key op at }
 {
     let turned = mirrored(op);
-    if is_version_in(line, at) & may_go_in(line, at, turned) {
+    let text = text_in(line, at);
+    if is_version(text) & may_go_with(turned, text) {
         return Verdict::Kept(keeps(Sort::Version, key, turned, at));
     }
-    Verdict::Ignored(1)
+    Verdict::Ignored(WarningKind::BadVersion)
 }
 
 fn string_verdict(key: Key, op: Operator, at: Span) -> Verdict
     ensures { result ≡ string_verdict key op at }
 {
     if is_compatible(op) {
-        return Verdict::Ignored(3);
+        return Verdict::Ignored(WarningKind::StringCompatible);
     }
     Verdict::Kept(keeps(Sort::String, key, op, at))
 }
 
 fn extra_verdict(line: &[u8], op: Operator, at: Span) -> Verdict
-    requires { Inside line.now at }
     ensures { result ≡ extra_verdict line.now op at }
 {
+    let bad = is_bad_name(text_in(line, at));
     if is_equality(op) {
-        if is_bad_name_in(line, at) {
-            return Verdict::KeptWarned(keeps(
-                Sort::Extra(ExtraKind::Arbitrary),
-                Key::Extra,
-                op,
-                at,
-            ));
+        if bad {
+            let sort = Sort::Extra(ExtraKind::Arbitrary);
+            return Verdict::KeptWarned(keeps(sort, Key::Extra, op, at));
         }
         return Verdict::Kept(keeps(Sort::Extra(ExtraKind::Normal), Key::Extra, op, at));
     }
-    if is_bad_name_in(line, at) {
-        return Verdict::IgnoredTwice(4);
+    if bad {
+        return Verdict::IgnoredTwice(WarningKind::BadExtra);
     }
-    Verdict::Ignored(4)
+    Verdict::Ignored(WarningKind::BadExtra)
 }
 
+// Here and in the two below the arms say what each kind of value comes to: one function for the three would take the kinds and the verdict as parameters, and be no plainer.
 fn with_version_left(line: &[u8], key: Key, op: Operator, right: Value) -> Verdict
-    requires { ValueInside line.now right }
     ensures { result ≡ version_left line.now key op right }
 {
     match right {
-        Value::Version(_) => Verdict::Ignored(1),
-        Value::String(_) => Verdict::Ignored(1),
-        Value::Extra => Verdict::Ignored(1),
+        Value::Version(_) | Value::String(_) | Value::Extra => Verdict::Ignored(
+            WarningKind::BadVersion,
+        ),
         Value::Quoted(at) => version_verdict(line, key, op, at),
     }
 }
@@ -202,41 +162,37 @@ fn with_string_left(key: Key, op: Operator, right: Value) -> Verdict
     ensures { result ≡ string_left key op right }
 {
     match right {
-        Value::Version(_) => Verdict::Ignored(2),
-        Value::String(_) => Verdict::Ignored(2),
-        Value::Extra => Verdict::Ignored(2),
+        Value::Version(_) | Value::String(_) | Value::Extra => Verdict::Ignored(
+            WarningKind::StringToName,
+        ),
         Value::Quoted(at) => string_verdict(key, op, at),
     }
 }
 
 fn with_extra_left(line: &[u8], op: Operator, right: Value) -> Verdict
-    requires { ValueInside line.now right }
     ensures { result ≡ extra_left line.now op right }
 {
     match right {
-        Value::Version(_) => Verdict::Ignored(4),
-        Value::String(_) => Verdict::Ignored(4),
-        Value::Extra => Verdict::Ignored(4),
+        Value::Version(_) | Value::String(_) | Value::Extra => Verdict::Ignored(
+            WarningKind::BadExtra,
+        ),
         Value::Quoted(at) => extra_verdict(line, op, at),
     }
 }
 
 fn with_quoted_left(line: &[u8], at: Span, op: Operator, right: Value) -> Verdict
-    requires { Inside line.now at }
     ensures { result ≡ quoted_left line.now at op right }
 {
     match right {
         Value::Version(key) => mirrored_verdict(line, key, op, at),
         Value::String(key) => Verdict::Kept(keeps(Sort::String, key, mirrored(op), at)),
         Value::Extra => extra_verdict(line, op, at),
-        Value::Quoted(_) => Verdict::Ignored(5),
+        Value::Quoted(_) => Verdict::Ignored(WarningKind::TwoLiterals),
     }
 }
 
 // The left value decides.
 pub fn verdict_of(line: &[u8], left: Value, op: Operator, right: Value) -> Verdict
-    requires left { ValueInside line.now left }
-    requires right { ValueInside line.now right }
     ensures { result ≡ verdict line.now left op right }
 {
     match left {

@@ -16,6 +16,7 @@ use Rattle.refusal.specs.Refusal.{refusal, given}
 use Rattle.refusal.specs.declared.fault.Fault.TheVariants.{NameBad, OutputShort}
 use Rattle.refusal.specs.declared.fault.Refusal.{Refusal}
 use Rattle.text.proofs.Cases.{cases, by_order}
+use Rattle.text.proofs.Laws.{run_start}
 use Rattle.text.proofs.Reach.{run_le}
 use Rattle.text.specs.Class.{is_separator, is_name_byte}
 use Rattle.text.specs.Scan.{run, byte_at}
@@ -102,4 +103,4 @@ module _ (s out : List ℕ) (bad : ℕ) (found : bad ≡ bad_at s) where
     pub written_out : (now : List ℕ) → n ≤ length out → now ≡ onto (normal s) out → now ≡ output s out
     written_out now l e = rw (← found, le-ltb bad (length s), ← size, le-ltb (length out) n) e
 
-pub ruleset normals = (bad_front, bad_inside, bad_last, bad_none, last_some, normal_gone, normal_kept, normal_end, kept_count, kept_room, answer_bad, kept_bad, answer_short, kept_short, answer_written, written_out, front, cases)
+pub ruleset normals = (bad_front, bad_inside, bad_last, bad_none, last_some, normal_gone, normal_kept, normal_end, kept_count, kept_room, answer_bad, kept_bad, answer_short, kept_short, answer_written, written_out, front, run_start, cases)

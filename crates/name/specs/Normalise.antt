@@ -2,10 +2,7 @@
 use Rattle.std.specs.Prelude.{ℕ, cond, List, ltb, length}
 use Rattle.arrays.specs.Front.{onto}
 use Rattle.refusal.specs.Answer.{Answer, good, refused}
-use Rattle.refusal.specs.Refusal.{given}
 use Rattle.name.specs.Normal.{normal, bad_at}
-use Rattle.name.specs.declared.Normalised.{Normalised}
-use Rattle.name.specs.declared.Normalised.TheVariants.{Written, Refused}
 
 -- "the normaliser only 28 and 29", "28 before 29"; else how long the normal form is
 abbrev pub normalised : List ℕ → ℕ → Answer ℕ
@@ -21,7 +18,3 @@ after (refused number start len) s out = out
 
 abbrev pub output : List ℕ → List ℕ → List ℕ
 output s out = after (normalised s (length out)) s out
-
-abbrev pub told : Normalised → Answer ℕ
-told (Written n) = good n
-told (Refused why) = given why

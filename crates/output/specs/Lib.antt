@@ -1,4 +1,4 @@
--- how much may wait to be written
-pub mod Room
+-- the bytes that wait to be written out
+pub mod Gathered
 -- what number digits spell
 pub mod Digits

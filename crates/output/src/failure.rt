@@ -1,24 +1,31 @@
 // Why something failed, told on standard error in the words that the system has for it.
+ghost use Rattle.std.specs.Prelude.{◌≤◌};
+
 use crate::Streams;
+use std::fmt::Write;
 use std::{fmt, io};
 
 // More than any error's words take.
 const WORDS_ROOM: usize = 512;
 
-// An error's words, gathered where they are formatted.
+// An error's words, gathered where they are formatted. (No `String`: this project takes memory of a fixed size alone.)
 #[derive(Drop)]
 struct Words {
     text: [u8; WORDS_ROOM],
     len: usize,
+    ghost bounded: { len ≤ 512 },
 }
 
 impl Words {
     fn add(&mut self, byte: u8) {
-        let n = self.len;
-        if n < WORDS_ROOM {
-            self.text[n] = byte;
-            self.len = n + 1;
+        if self.len < WORDS_ROOM {
+            self.text[self.len] = byte;
+            self.len += 1;
         }
+    }
+
+    fn as_slice(&self) -> &[u8] {
+        &self.text[..self.len]
     }
 }
 
@@ -31,43 +38,28 @@ impl fmt::Write for Words {
     }
 }
 
-fn words_of(why: io::Error) -> Words {
-    let mut words = Words {
-        text: [0; WORDS_ROOM],
-        len: 0,
-    };
-    let _ = fmt::Write::write(&mut words, why);
-    words
-}
-
-// The end of the text without the ` (os error 28)` that stands behind the system's own words.
-fn without_code(text: &[u8], len: usize) -> usize {
-    let mut at = len;
-    while at > 0 {
-        at -= 1;
-        if at < text.len() && text[at] == b'(' {
-            return if at > 0 { at - 1 } else { 0 };
-        }
-    }
-    len
-}
-
-fn write_front(streams: Streams, text: &[u8], n: usize) {
-    if n <= text.len() {
-        let _ = streams.err.write_all(&text[..n]);
+// The text without the ` (os error 28)` that stands behind the system's own words.
+fn without_code(text: &[u8]) -> &[u8] {
+    match text.iter().rposition(|byte| *byte == b'(') {
+        Some(at) => &text[..at.saturating_sub(1)],
+        None => text,
     }
 }
 
 // One line: what it is about, and why it failed.
 pub fn tell_failure(streams: Streams, what: &[u8], why: io::Error) {
-    let words = words_of(why);
-    let n = if why.raw_os_error().is_some() {
-        without_code(&words.text, words.len)
+    let mut words = Words {
+        text: [0; WORDS_ROOM],
+        len: 0,
+    };
+    let _ = write!(words, "{why}");
+    let text = if why.raw_os_error().is_some() {
+        without_code(words.as_slice())
     } else {
-        words.len
+        words.as_slice()
     };
     let _ = streams.err.write_all(what);
     let _ = streams.err.write_all(b": ");
-    write_front(streams, &words.text, n);
+    let _ = streams.err.write_all(text);
     let _ = streams.err.write_all(b"\n");
 }

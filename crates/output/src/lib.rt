@@ -1,22 +1,22 @@
-// Text on its way to standard output. It is gathered in an array that the caller lends, so that one write moves much of it. Each function takes how many
-// bytes wait there and answers how many wait afterwards; a full array is written out first.
+// Text on its way to standard output. It is gathered in an array, so that one write moves much of it; where the next text finds no room there, what waits is
+// written out first.
 #![tactic(auto)]
 
 mod digits;
 mod failure;
 
-ghost use Rattle.std.specs.Prelude.{◌⊎◌, ◌≡◌, ◌≤◌, max};
-ghost use Rattle.output.specs.Room.{most_waiting};
+ghost use Rattle.std.specs.Prelude.{◌≡◌, ℕ, ◌+◌, ◌/◌, ◌%◌, ◌≤◌, List, [], ◌∷◌, ◌++◌, length, true, false};
+ghost use Rattle.std.specs.Fmt.{digit_glyph};
+ghost use Rattle.output.specs.Digits.{Spells};
+ghost use Rattle.output.specs.Gathered.{Gathered, Fits, Gathers};
 
-use digits::spell;
+use digits::{hex_digit, spell};
 pub use failure::tell_failure;
-use std::io;
+use std::fmt;
 use std::io::{Stderr, Stdout};
+use std::marker::Model;
 
 pub const ROOM: usize = 65536;
-
-// So many wait where a write failed: more than the array has. What is put then is dropped, so that no part of the output is missing but its end.
-const BROKEN: usize = 65537;
 
 // Leave to write to standard output, and to say on standard error what failed. It takes no bytes.
 #[derive(Clone, Copy)]
@@ -34,104 +34,140 @@ impl Streams {
     }
 }
 
-fn write_part(streams: Streams, buf: &[u8], n: usize) -> io::Result<()> {
-    if n <= buf.len() {
-        streams.out.write_all(&buf[..n])
-    } else {
+// The first `waiting` bytes of the array are still to be written. Once a write failed, what is put is dropped, so that no part of the output is missing but its
+// end. (Not std's `BufWriter`, which gathers on the heap: this project takes memory of a fixed size alone.)
+#[derive(Drop)]
+pub struct Output {
+    streams: Streams,
+    buf: [u8; ROOM],
+    waiting: usize,
+    broken: bool,
+}
+
+impl Model for Output {
+    ghost use Rattle.std.specs.Prelude.{◌≡◌, ◌≤◌, true, take};
+    ghost use Rattle.output.specs.Gathered.{Gathered, gathered_code};
+
+    ghost Value = { Gathered };
+
+    ghost coded = { gathered_code };
+
+    ghost view = { λ o. record { bytes = take o.waiting o.buf; broken = o.broken } };
+
+    ghost invariant = { λ o. (o.waiting ≤ 65536) × (o.broken ≡ true → o.waiting ≡ 0) };
+}
+
+impl Output {
+    // Nothing waits yet.
+    pub fn to(streams: Streams) -> Output
+        ensures { result ≡ record { bytes = []; broken = false } }
+    {
+        Output {
+            streams,
+            buf: [0; ROOM],
+            waiting: 0,
+            broken: false,
+        }
+    }
+
+    pub fn waiting(&self) -> &[u8]
+        ensures { result.now ≡ self.now.bytes }
+    {
+        &self.buf[..self.waiting]
+    }
+
+    // Forgets what waits, and that a write failed.
+    pub fn clear(&mut self)
+        ensures { self.new ≡ record { bytes = []; broken = false } }
+    {
+        (self.waiting, self.broken) = (0, false);
+    }
+
+    // Writes out what waits. A write that fails is told on standard error, once.
+    pub fn flush(&mut self)
+        ensures none { self.new.bytes ≡ [] }
+        ensures broken { self.old.broken ≡ true → self.new.broken ≡ true }
+    {
+        if !is_written(self.streams, self.waiting()) {
+            self.broken = true;
+        }
+        self.waiting = 0;
+    }
+
+    // What waits is written out first where so many bytes more find no room behind it.
+    fn make_room(&mut self, len: usize)
+        ensures fits { Fits self.new len }
+        ensures last { (gone : List ℕ) × (self.old.bytes ≡ gone ++ self.new.bytes) }
+        ensures broken { self.old.broken ≡ true → self.new.broken ≡ true }
+        ensures same { length self.old.bytes + len ≤ 65536 → self.new ≡ self.old }
+    {
+        if ROOM - self.waiting < len {
+            self.flush();
+        }
+    }
+
+    // A text that is longer than the array goes out at once.
+    fn add(&mut self, text: &[u8])
+        requires { Fits self.old (length text.now) }
+        ensures { Gathers self.old text.now self.new }
+    {
+        if self.broken {
+            return;
+        }
+        if ROOM < text.len() {
+            self.broken = !is_written(self.streams, text);
+            return;
+        }
+        let end = self.waiting + text.len();
+        self.buf[self.waiting..end].copy_from_slice(text);
+        self.waiting = end;
+    }
+
+    pub fn text(&mut self, text: &[u8])
+        ensures { Gathers self.old text.now self.new }
+    {
+        self.make_room(text.len());
+        self.add(text);
+    }
+
+    pub fn put(&mut self, byte: u8)
+        ensures { Gathers self.old (byte ∷ []) self.new }
+    {
+        self.text(&[byte]);
+    }
+
+    // In decimal digits. (Not by `write!`: a contract knows what that put only where it answers `Ok`, which `write_str` cannot promise to all.)
+    pub fn number(&mut self, number: u64)
+        ensures { (digits : List ℕ) × Spells digits number × Gathers self.old digits self.new }
+    {
+        let mut digits = [0u8; 20];
+        let from = spell(number, &mut digits);
+        self.text(&digits[from..]);
+    }
+
+    // Two digits, in small letters.
+    pub fn hex(&mut self, byte: u8)
+        ensures { Gathers self.old (digit_glyph false (byte / 16) ∷ digit_glyph false (byte % 16) ∷ []) self.new }
+    {
+        self.text(&[hex_digit(byte / 16), hex_digit(byte % 16)]);
+    }
+}
+
+// For `write!`. It never fails: what is put after a failed write is dropped.
+impl fmt::Write for Output {
+    ghost write_str_gives = { Gathers };
+
+    fn write_str(&mut self, s: &str) -> fmt::Result {
+        self.text(s.as_bytes());
         Ok(())
     }
 }
 
-// Writes out what waits: nothing waits afterwards. A write that fails is told on standard error, once.
-pub fn flush(streams: Streams, buf: &[u8; ROOM], at: usize) -> usize
-    ensures { (result ≡ 0) ⊎ (result ≡ most_waiting) }
-{
-    if at > ROOM {
-        return BROKEN;
+// Whether the bytes went out to standard output. It is told if they did not.
+fn is_written(streams: Streams, bytes: &[u8]) -> bool {
+    if let Err(why) = streams.out.write_all(bytes) {
+        tell_failure(streams, b"standard output", why);
+        return false;
     }
-    let Err(why) = write_part(streams, buf, at) else {
-        return 0;
-    };
-    tell_failure(streams, b"standard output", why);
-    BROKEN
-}
-
-// Where the next byte goes, if it goes anywhere.
-fn free_place(streams: Streams, buf: &[u8; ROOM], at: usize) -> usize
-    ensures { result ≤ most_waiting }
-{
-    if at < ROOM {
-        at
-    } else {
-        flush(streams, buf, at)
-    }
-}
-
-pub fn put(streams: Streams, buf: &mut [u8; ROOM], at: usize, byte: u8) -> usize
-    ensures { result ≤ most_waiting }
-{
-    let n = free_place(streams, buf, at);
-    if n < ROOM {
-        buf[n] = byte;
-        return n + 1;
-    }
-    n
-}
-
-// The bytes of a text from one place up to another, as far as it has them.
-pub fn put_part(
-    streams: Streams,
-    buf: &mut [u8; ROOM],
-    at: usize,
-    text: &[u8],
-    from: usize,
-    to: usize,
-) -> usize
-    ensures { result ≤ max at most_waiting }
-{
-    let mut n = at;
-    let mut i = from;
-    while i < to && i < text.len() {
-        n = put(streams, buf, n, text[i]);
-        i += 1;
-    }
-    n
-}
-
-pub fn put_text(streams: Streams, buf: &mut [u8; ROOM], at: usize, text: &[u8]) -> usize
-    ensures { result ≤ max at most_waiting }
-{
-    put_part(streams, buf, at, text, 0, text.len())
-}
-
-fn put_digits(
-    streams: Streams,
-    buf: &mut [u8; ROOM],
-    at: usize,
-    digits: &[u8; 20],
-    from: usize,
-) -> usize
-    ensures { result ≤ max at most_waiting }
-{
-    put_part(streams, buf, at, digits, from, 20)
-}
-
-pub fn put_number(streams: Streams, buf: &mut [u8; ROOM], at: usize, number: u64) -> usize
-    ensures { result ≤ max at most_waiting }
-{
-    let mut digits = [0u8; 20];
-    let from = spell(number, &mut digits);
-    put_digits(streams, buf, at, &digits, from)
-}
-
-fn hex_digit(n: u8) -> u8 {
-    if n < 10 { b'0' + n % 10 } else { 87 + n % 16 }
-}
-
-// Two digits, in small letters.
-pub fn put_hex(streams: Streams, buf: &mut [u8; ROOM], at: usize, byte: u8) -> usize
-    ensures { result ≤ most_waiting }
-{
-    let n = put(streams, buf, at, hex_digit(byte / 16));
-    put(streams, buf, n, hex_digit(byte % 16))
+    true
 }

@@ -1,28 +1,31 @@
 -- The laws of heights and of the first fault, which answer the check's loop. Assumes nothing.
-use mathlib.Core.Path.{◌≡◌, refl, ap, ◌∙◌}
-use mathlib.Core.Bool.{Bool, true, false}
+use mathlib.Core.Path.{◌≡◌, refl, sym, ap, ◌∙◌}
+use mathlib.Core.Bool.{Bool, true, false, cond}
 use mathlib.Core.List.{List, [], ◌∷◌, ◌++◌}
 use Prim.Native.Nat.{ℕ, zero, suc, ◌+◌, ◌≤◌, ◌<◌, zero-le}
 use native.Mathlib.Nat.{zero-add}
 use native.Mathlib.Numerals.{add-one}
 use native.Mathlib.Omega.{arith}
+use lib.Dec.{ltb, eqb}
 use lib.ListN.{length, take, get_or}
-use borrow.Author.Tests.{lt-ltb, le-ltb, eq-eqb, ne_eqb}
+use borrow.Author.Tests.{lt-ltb, le-ltb, ne_eqb}
 use lib.Seq.{take-suc, take_all}
 use Rattle.refusal.proofs.Numbers.{given_is}
+use Rattle.text.proofs.Cases.{cases}
 use Rattle.text.proofs.Laws.{skip_start, turn, stopped, ended}
 use Rattle.text.proofs.Reach.{run_le}
-use Rattle.refusal.specs.Answer.{passes}
-use Rattle.refusal.specs.Refusal.{refusal, given}
+use Rattle.refusal.specs.Answer.{Answer, good, refused, passes}
+use Rattle.refusal.specs.Refusal.{refusal, given, told}
+use Rattle.std.specs.Result.{IsErrAnd}
+use Rattle.std.proofs.lemmas.Result.{err_from_is_err_and}
+use Rattle.std.specs.Prelude.{Option, Some, None, Result, Ok, Err}
 use Rattle.text.specs.Scan.{skip, byte_at}
 use Rattle.refusal.specs.declared.fault.Fault.TheVariants.{ProgramBad}
 use Rattle.refusal.specs.declared.fault.Refusal.{Refusal}
-use Rattle.program_check.proofs.Words.{words}
 use Rattle.program_check.specs.Check.{keeps, places, fault_at, checked_words}
 use Rattle.program_check.specs.Rules.{after, height, sound}
 use Rattle.program_check.specs.Word.{word}
-use Rattle.program_check.specs.inner.Reach.{reached}
-use Rattle.program_check.specs.declared.rules.Reach.{Reach}
+use Rattle.program_check.specs.inner.Heights.{next_height, height_at_end}
 use Rattle.program_check.specs.declared.word.Word.{Word}
 
 -- the height after two programs, one behind the other
@@ -56,53 +59,62 @@ unfolding fault_at height
 walk_start s count = record { place = skip_start (keeps s count) (places 0 (length s)); high = refl; within = zero-le }
 
 module _ (s : List ℕ) (count at h : ℕ) (inv : Walked s count at h) where
-  arrived : at ≡ fault_at s count → ◌≡◌ {A = Reach} (record { at = at; height = h }) (reached s count)
-  arrived e = rw (inv.high, e)
-
-  module _ (w : Word) (r : Bool) (l : at < length s) (made : w ≡ word (byte_at s at)) (test : r ≡ sound count at h w) where
+  module _ (w : Word) (l : at < length s) (made : w ≡ word (byte_at s at)) (found : Option ℕ) (is : found ≡ next_height w at count h) where
     inside : at < length (places 0 (length s))
     inside = rw places_length l
 
-    tested : r ≡ keeps s count (get_or (places 0 (length s)) at 0)
-    tested = rw (places_at 0 (length s) at l, zero-add, ← inv.high, ← made) test
+    tested : (r : Bool) → sound count at h w ≡ r → r ≡ keeps s count (get_or (places 0 (length s)) at 0)
+    tested r test = rw (places_at 0 (length s) at l, zero-add, ← inv.high, ← made) (sym test)
 
-    pub walk_turn : (n : ℕ) → r ≡ true → n ≡ after h w → Walked s count (at + 1) n
-    walk_turn n hit e = record {
-      place = turn (keeps s count) (places 0 (length s)) at (fault_at s count) inv.place 0 inside r tested hit;
-      high = rw (height_next s at l, ← inv.high, ← made) e;
-      within = omega arith;
-    }
+    pub walk_turn : (n : ℕ) → found ≡ Some n → Walked s count (at + 1) n
+    walk_turn n e = go (sound count at h w) refl (sym e ∙ is)
+      where
+        go : (r : Bool) → sound count at h w ≡ r → Some n ≡ cond r (Some (after h w)) None → Walked s count (at + 1) n
+        go true test e = record {
+          place = turn (keeps s count) (places 0 (length s)) at (fault_at s count) inv.place 0 inside true (tested true test) refl;
+          high = rw (height_next s at l, ← inv.high, ← made) (cc);
+          within = omega arith;
+        }
+        go false test e = cc
 
-    pub walk_stop : r ≡ false → ◌≡◌ {A = Reach} (record { at = at; height = h }) (reached s count)
-    walk_stop miss = arrived (stopped (keeps s count) (places 0 (length s)) at (fault_at s count) inv.place 0 inside r tested miss)
+    pub walk_stop : (why : Refusal) → found ≡ None → why ≡ refusal ProgramBad at 1 → given why ≡ height_at_end s count
+    walk_stop why e f = go (sound count at h w) refl (sym e ∙ is)
+      where
+        go : (r : Bool) → sound count at h w ≡ r → None ≡ cond r (Some (after h w)) None → given why ≡ height_at_end s count
+        go true test e = cc
+        go false test e =
+            let here = stopped (keeps s count) (places 0 (length s)) at (fault_at s count) inv.place 0 inside false (tested false test) refl in
+            rw (← here, lt-ltb at (length s)) (given_is why ProgramBad at at 1 30 f refl refl)
 
-  pub walk_end : length s ≤ at → ◌≡◌ {A = Reach} (record { at = at; height = h }) (reached s count)
-  walk_end l = arrived (ended (keeps s count) (places 0 (length s)) at (fault_at s count) inv.place (rw places_length l))
+  pub walk_end : length s ≤ at → good h ≡ height_at_end s count
+  walk_end l =
+      let here = ended (keeps s count) (places 0 (length s)) at (fault_at s count) inv.place (rw places_length l) in
+      let whole : take at s ≡ s = take_all at s l in
+      rw (← here, le-ltb at (length s), inv.high, whole)
 
 -- the first fault lies within the program
 pub fault_within : (s : List ℕ) (count : ℕ) → fault_at s count ≤ length s
 unfolding fault_at
 fault_within s count = omega (arith, run_le (keeps s count) (places 0 (length s)), places_length 0 (length s))
 
--- the answers, from where the loop stopped and how many values stood there
-module _ (s : List ℕ) (count : ℕ) (got : Reach) (made : got ≡ reached s count) where
-  found : got.at ≡ fault_at s count
-  found = ap (λ (r : Reach). r.at) made
+-- what the check makes of the walk's answer
+module _ (s : List ℕ) (count : ℕ) (k : Result ℕ Refusal) (made : told k ≡ height_at_end s count) where
+  pub words_refused : (z : Result (Unit {0}) Refusal) (why : Refusal) → k ≡ Err why → IsErrAnd z (λ e. e ≡ why) → told z ≡ checked_words s count
+  words_refused z why e passed = let out = err_from_is_err_and z passed in rw (out.1, out.2) (go (ltb (fault_at s count) (length s)) (sym (ap told e) ∙ made))
+    where
+      go : (t : Bool) → given why ≡ cond t (refused 30 (fault_at s count) 1) (good (height 0 s)) → given why ≡ cond t (refused 30 (fault_at s count) 1) (cond (eqb (height 0 s) 1) passes (refused 30 (length s) 1))
+      go true f = unfold given in cc
+      go false f = unfold given in cc
 
-  pub answer_fault : (why : Refusal) → got.at < length s → why ≡ refusal ProgramBad got.at 1 → given why ≡ checked_words s count
-  answer_fault why l e = rw (← found, lt-ltb got.at (length s)) (given_is why ProgramBad got.at got.at 1 30 e refl refl)
+  module _ (h : ℕ) (e : k ≡ Ok h) where
+    at_end : (z : Answer (Unit {0})) → z ≡ cond (eqb h 1) passes (refused 30 (length s) 1) → z ≡ checked_words s count
+    at_end z f = go (ltb (fault_at s count) (length s)) (sym (ap told e) ∙ made)
+      where
+        go : (t : Bool) → good h ≡ cond t (refused 30 (fault_at s count) 1) (good (height 0 s)) → z ≡ cond t (refused 30 (fault_at s count) 1) (cond (eqb (height 0 s) 1) passes (refused 30 (length s) 1))
+        go true g = cc
+        go false g = let same : h ≡ height 0 s = cc in rw (← same) f
 
-  module _ (l : length s ≤ got.at) where
-    all : got.at ≡ length s
-    all = omega (arith, found, fault_within s count)
+    pub words_end : (why : Refusal) → (h ≡ 1 → ⊥) → why ≡ refusal ProgramBad (length s) 1 → given why ≡ checked_words s count
+    words_end why n f = at_end (given why) (rw (ne_eqb h 1 n) (given_is why ProgramBad (length s) (length s) 1 30 f refl refl))
 
-    whole : got.height ≡ height 0 s
-    whole = ap (λ (r : Reach). r.height) made ∙ ap (height 0) (take_all (fault_at s count) s (rw (← found) l))
-
-    pub answer_end : (why : Refusal) → (got.height ≡ 1 → ⊥) → why ≡ refusal ProgramBad got.at 1 → given why ≡ checked_words s count
-    answer_end why n e = rw (← found, le-ltb got.at (length s), ← whole, ne_eqb got.height 1) (given_is why ProgramBad got.at (length s) 1 30 e all refl)
-
-    pub answer_good : got.height ≡ 1 → passes ≡ checked_words s count
-    answer_good e = rw (← found, le-ltb got.at (length s), ← whole, eq-eqb got.height 1)
-
-pub ruleset walks = (walk_start, walk_turn, walk_stop, walk_end, answer_fault, answer_end, answer_good, given_is, words)
+pub ruleset walks = (walk_start, walk_turn, walk_stop, walk_end, given_is, cases)

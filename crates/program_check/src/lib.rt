@@ -5,4 +5,4 @@ mod rules;
 mod word;
 
 pub use rules::{MAX_SLOTS, MAX_WORDS, check};
-pub use word::{Word, is_operator, word_of};
+pub use word::Word;

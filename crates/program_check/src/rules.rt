@@ -1,13 +1,13 @@
 // The stack rules: one pass over the program, with the height of the stack and no stack.
-ghost use Rattle.std.specs.Prelude.{◌≡◌, true};
+ghost use Rattle.std.specs.Prelude.{◌≡◌};
 ghost use Rattle.refusal.specs.Refusal.{told};
 ghost use Rattle.program_check.specs.Check.{checked_words, checked_program};
-ghost use Rattle.program_check.specs.Rules.{allowed, sound, after};
-ghost use Rattle.program_check.specs.inner.Reach.{reached};
+ghost use Rattle.program_check.specs.Rules.{allowed};
+ghost use Rattle.program_check.specs.inner.Heights.{next_height, height_at_end};
 
-use crate::word::{Word, word_of};
+use crate::word::Word;
 use cursor::Cursor;
-use refusal::{Fault, Outcome, Refusal};
+use refusal::{Fault, Refusal};
 
 // Words of a program.
 pub const MAX_WORDS: usize = 127;
@@ -15,83 +15,61 @@ pub const MAX_WORDS: usize = 127;
 // Values that stand at one time.
 pub const MAX_SLOTS: usize = 35;
 
-// How far a program keeps to the rules, and how many values stand there.
-#[derive(Clone, Copy)]
-struct Reach {
-    at: usize,
-    height: usize,
-}
-
 // Whether a word may come where so many values stand.
-fn may_come(w: Word, count: usize, height: usize) -> bool
-    ensures { result ≡ allowed count height w }
+fn may_come(word: Word, count: usize, height: usize) -> bool
+    ensures { result ≡ allowed count height word }
 {
-    match w {
-        Word::Push(k) => ((k.0 as usize) < count) & (height < MAX_SLOTS),
-        Word::And => 2 <= height,
-        Word::Or => 2 <= height,
+    match word {
+        Word::Push(k) => (k.0 as usize) < count && height < MAX_SLOTS,
+        Word::And | Word::Or => 2 <= height,
         Word::Yes => height < MAX_SLOTS,
         Word::Unknown => false,
     }
 }
 
-// How many values stand after a word that is not at fault.
-fn height_after(w: Word, at: usize, count: usize, height: usize) -> usize
-    requires { sound count at height w ≡ true }
-    ensures { result ≡ after height w }
+// How many values stand after the word at a place, if it is not at fault.
+fn height_after(word: Word, at: usize, count: usize, height: usize) -> Option<usize>
+    ensures { result ≡ next_height word at count height }
 {
-    match w {
-        Word::Push(_) => height + 1,
-        Word::And => height - 1,
-        Word::Or => height - 1,
-        Word::Yes => height + 1,
-        Word::Unknown => height,
-    }
-}
-
-// Whether the word at a place is not at fault.
-fn keeps_rules(w: Word, at: usize, count: usize, height: usize) -> bool
-    ensures { result ≡ sound count at height w }
-{
-    (at < MAX_WORDS) & may_come(w, count, height)
-}
-
-fn walk(program: &[u8], count: usize) -> Reach
-    ensures { result ≡ reached program.now count }
-{
-    let mut height: usize = 0;
-    let mut at: usize = 0;
-    while at < program.len() {
-        let w = word_of(program[at]);
-        if keeps_rules(w, at, count, height) {
-            height = height_after(w, at, count, height);
-            at += 1;
+    if at < MAX_WORDS && may_come(word, count, height) {
+        Some(if word.is_operator() {
+            height - 1
         } else {
-            return Reach { at, height };
-        }
+            height + 1
+        })
+    } else {
+        None
     }
-    Reach { at, height }
 }
 
-fn check_words(program: &[u8], count: usize) -> Outcome
+// How many values stand at the end, or 30 at the first word at fault.
+fn walk(program: &[u8], count: usize) -> Result<usize, Refusal>
+    ensures { told result ≡ height_at_end program.now count }
+{
+    let mut height = 0;
+    for (at, byte) in program.iter().enumerate() {
+        let Some(after) = height_after(Word::from(*byte), at, count, height) else {
+            return Err(Refusal::new(Fault::ProgramBad, at, 1));
+        };
+        height = after;
+    }
+    Ok(height)
+}
+
+fn check_words(program: &[u8], count: usize) -> Result<(), Refusal>
     ensures { told result ≡ checked_words program.now count }
 {
-    let got = walk(program, count);
-    let at = got.at;
-    if at < program.len() {
-        return Outcome::Refused(Refusal::new(Fault::ProgramBad, at, 1));
+    if walk(program, count)? == 1 {
+        return Ok(());
     }
-    if got.height == 1 {
-        return Outcome::Good;
-    }
-    Outcome::Refused(Refusal::new(Fault::ProgramBad, at, 1))
+    Err(Refusal::new(Fault::ProgramBad, program.len(), 1))
 }
 
-pub fn check(program: &[u8], count: usize) -> Outcome
+pub fn check(program: &[u8], count: usize) -> Result<(), Refusal>
     ensures { told result ≡ checked_program program.now count }
 {
     if Cursor::MAX_COMPARISONS < count {
-        return Outcome::Refused(Refusal::new(Fault::CountOver, 0, 1));
+        return Err(Refusal::new(Fault::CountOver, 0, 1));
     }
     check_words(program, count)
 }

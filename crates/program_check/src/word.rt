@@ -1,11 +1,12 @@
-// The words of a program, each one byte.
+// The words of programs, each one byte.
 ghost use Rattle.std.specs.Prelude.{◌≡◌};
 ghost use Rattle.program_check.specs.Rules.{is_operator};
 ghost use Rattle.program_check.specs.Word.{word};
 
 use refusal::ComparisonNumber;
 
-#[derive(Clone, Copy)]
+// Unknown is a word, and no None: the stack rules (`allowed`, `saying`) and the theorems over them say what it does.
+#[derive(Clone, Copy, Debug, PartialEq, Eq)]
 pub enum Word {
     // Pushes the comparison of this number.
     Push(ComparisonNumber),
@@ -16,26 +17,25 @@ pub enum Word {
     Unknown,
 }
 
-pub fn word_of(b: u8) -> Word
-    ensures { result ≡ word b }
-{
-    match b {
-        0..=63 => Word::Push(ComparisonNumber(b)),
-        64 => Word::And,
-        65 => Word::Or,
-        66 => Word::Yes,
-        _ => Word::Unknown,
+impl From<u8> for Word {
+    ghost from_gives = { λ b w. w ≡ word b };
+
+    #[tactic(auto, unfolding(crate::specs::Word::word))]
+    fn from(b: u8) -> Word {
+        match b {
+            0..=63 => Word::Push(ComparisonNumber(b)),
+            64 => Word::And,
+            65 => Word::Or,
+            66 => Word::Yes,
+            _ => Word::Unknown,
+        }
     }
 }
 
-pub fn is_operator(w: Word) -> bool
-    ensures { result ≡ is_operator w }
-{
-    match w {
-        Word::Push(_) => false,
-        Word::And => true,
-        Word::Or => true,
-        Word::Yes => false,
-        Word::Unknown => false,
+impl Word {
+    pub fn is_operator(self) -> bool
+        ensures { result ≡ is_operator self }
+    {
+        matches!(self, Word::And | Word::Or)
     }
 }

@@ -5,4 +5,3 @@ pub mod Own
 pub mod Passing
 pub mod RanAnswers
 pub mod Runs
-pub mod Values

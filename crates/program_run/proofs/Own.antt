@@ -1,12 +1,10 @@
 -- The runner's contract in document 01's terms leaves one answer. Assumes nothing.
-use mathlib.Core.Path.{◌≡◌, ap}
-use Rattle.refusal.proofs.Numbers.{given_own}
-use Rattle.refusal.specs.Refusal.{given}
-use Rattle.program_run.specs.Run.{told}
-use Rattle.program_run.specs.declared.machine.Ran.{Ran}
+use mathlib.Core.Bool.{Bool}
+use mathlib.Core.Path.{◌≡◌}
+use Rattle.refusal.proofs.Numbers.{told_own}
+use Rattle.refusal.specs.Refusal.{told}
+use Rattle.refusal.specs.declared.fault.Refusal.{Refusal}
+use Rattle.std.specs.Prelude.{Result}
 
-pub ran_own : (v w : Ran) → told v ≡ told w → v ≡ w
-ran_own (Ran.Answer a) (Ran.Answer b) e = let p : a ≡ b = cc in ap Ran.Answer p
-ran_own (Ran.Answer a) (Ran.Refused w) e = unfold given in cc
-ran_own (Ran.Refused v) (Ran.Answer b) e = unfold given in cc
-ran_own (Ran.Refused v) (Ran.Refused w) e = ap Ran.Refused (given_own v w e)
+pub ran_own : (v w : Result Bool Refusal) → told v ≡ told w → v ≡ w
+ran_own v w e = told_own v w e

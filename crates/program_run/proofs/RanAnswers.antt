@@ -1,32 +1,25 @@
--- The runner's answer: the laws that answer `run`, from what the check answered, and what is proved of `ran`. Assumes nothing.
-use mathlib.Core.Path.{◌≡◌, refl, sym, ap, ◌∙◌}
+-- What is proved of the runner's answer. Assumes nothing.
+use mathlib.Core.Path.{◌≡◌, refl, ap}
 use mathlib.Core.Bool.{Bool}
 use mathlib.Core.List.{List, [], ◌∷◌}
 use Prim.Native.Nat.{ℕ, ◌<◌}
 use Rattle.refusal.specs.Answer.{Answer, good, refused, on_good, passes}
 use Rattle.refusal.specs.Refusal.{given, told}
 use Rattle.refusal.specs.declared.fault.Refusal.{Refusal}
+use Rattle.std.specs.Prelude.{Result, Err}
+use Rattle.std.specs.Result.{IsErrAnd}
+use Rattle.std.proofs.lemmas.Result.{err_from_is_err_and}
 use Rattle.program_check.specs.Check.{checked_program}
 use Rattle.program_check.specs.Tree.{Tree, postfix, saying, value, Within, tree_of}
-use Rattle.refusal.specs.declared.fault.Outcome.{Outcome}
 use Rattle.program_laws.proofs.Meaning.{tree_own, within_passes, passes_within, fold_below}
 use Rattle.program_run.proofs.Passing.{passes_runs}
-use Rattle.program_run.proofs.Values.{values}
-use Rattle.program_run.specs.Machine.{stands, steps, Ends}
+use Rattle.program_run.specs.Machine.{stands, steps}
 use Rattle.program_run.specs.Run.{bit, ran}
 
-module _ (s : List ℕ) (count assignment : ℕ) (k : Outcome) (made : told k ≡ checked_program s count) where
-  pub run_good : k ≡ Outcome.Good → Ends (saying (bit assignment)) s
-  run_good e = passes_runs s count (sym made ∙ ap told e) (saying (bit assignment))
-
-  pub run_answer : (v : Bool) → k ≡ Outcome.Good → v ≡ value (bit assignment) (tree_of s) → good v ≡ ran s count assignment
-  run_answer v e f = rw (← made, e, f)
-
-  pub run_refused : (why : Refusal) → k ≡ Outcome.Refused why → given why ≡ ran s count assignment
-  unfolding given
-  run_refused why e = rw (← made, e)
-
-pub ruleset answers = (run_good, run_answer, run_refused, values)
+-- a refusal of the check, handed on
+pub run_refused : (s : List ℕ) (count assignment : ℕ) (k : Result (Unit {0}) Refusal) → told k ≡ checked_program s count → (why : Refusal) (z : Result Bool Refusal) → k ≡ Err why → IsErrAnd z (λ e. e ≡ why) → told z ≡ ran s count assignment
+unfolding given
+run_refused s count assignment k made why z e passed = let out = err_from_is_err_and z passed in rw (out.1, out.2, ← made, e)
 
 -- the runner's answer for a tree's program is the tree's value
 pub within_ran : (t : Tree) (count assignment : ℕ) → Within t count → ran (postfix t) count assignment ≡ good (value (bit assignment) t)

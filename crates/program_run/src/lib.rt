@@ -3,4 +3,4 @@
 
 mod machine;
 
-pub use machine::{Ran, run};
+pub use machine::run;

@@ -1,54 +1,58 @@
 // Running a program: the check, then one pass over the words with 35 slots.
-ghost use Rattle.std.specs.Prelude.{◌≡◌, ◌&&◌, ◌||◌};
+ghost use Rattle.std.specs.Prelude.{◌≡◌, ◌≤◌, [], ◌∷◌, ◌++◌, reverse};
+ghost use Rattle.arrayvec.specs.ArrayVec.{array_vec_len};
+ghost use Rattle.program_check.specs.Rules.{max_slots};
 ghost use Rattle.program_check.specs.Tree.{saying, tree_of, value};
-ghost use Rattle.program_run.specs.Machine.{Ends};
-ghost use Rattle.program_run.specs.Run.{bit, ran, told};
-ghost use Rattle.program_run.specs.inner.Obeying.{joins, says};
+ghost use Rattle.program_run.specs.Machine.{Ends, obeyed, stands};
+ghost use Rattle.program_run.specs.Run.{bit, ran};
+ghost use Rattle.program_run.specs.inner.Obeying.{IsStanding};
+ghost use Rattle.refusal.specs.Refusal.{told};
 
+use arrayvec::ArrayVec;
 use cursor::Cursor;
-use program_check::{MAX_SLOTS, Word, check, is_operator, word_of};
-use refusal::{ComparisonNumber, Outcome, Refusal};
+use program_check::{MAX_SLOTS, Word, check};
+use refusal::{ComparisonNumber, Refusal};
 
-#[derive(Clone, Copy)]
-pub enum Ran {
-    Answer(bool),
-    Refused(Refusal),
-}
+// The values that stand, the latest last.
+type Slots = ArrayVec<bool, MAX_SLOTS>;
 
 // The bit of a comparison, and no past the 64.
 fn bit_of(assignment: u64, k: ComparisonNumber) -> bool
     ensures { result ≡ bit assignment k.0 }
 {
-    if (k.0 as usize) < Cursor::MAX_COMPARISONS {
-        (assignment >> (k.0 as u64)) % 2 == 1
-    } else {
-        false
-    }
+    (k.0 as usize) < Cursor::MAX_COMPARISONS && (assignment >> k.0) % 2 == 1
 }
 
-// What an operator makes of two values.
-fn join(w: Word, older: bool, latest: bool) -> bool
-    ensures { result ≡ joins ◌&&◌ ◌||◌ w older latest }
+// Takes the two latest values, the older first.
+fn take_two(slots: &mut Slots) -> (bool, bool)
+    requires { 2 ≤ array_vec_len slots.old }
+    ensures { slots.old.items ≡ slots.new.items ++ result.0 ∷ result.1 ∷ [] }
 {
-    match w {
-        Word::Push(_) => older,
-        Word::And => older & latest,
-        Word::Or => older | latest,
-        Word::Yes => older,
-        Word::Unknown => older,
-    }
+    let latest = slots.pop().unwrap();
+    let older = slots.pop().unwrap();
+    (older, latest)
 }
 
-// What a word that is no operator pushes.
-fn push(w: Word, assignment: u64) -> bool
-    ensures { result ≡ says (saying (bit assignment)) w }
+fn obey_word(word: Word, assignment: u64, slots: &mut Slots)
+    requires few { array_vec_len slots.old ≤ max_slots }
+    requires finds { IsStanding (obeyed (saying (bit assignment)) word (reverse slots.old.items)) }
+    ensures few { array_vec_len slots.new ≤ max_slots }
+    ensures leaves { obeyed (saying (bit assignment)) word (reverse slots.old.items)
+        ≡ stands (reverse slots.new.items) }
 {
-    match w {
-        Word::Push(k) => bit_of(assignment, k),
-        Word::And => true,
-        Word::Or => true,
-        Word::Yes => true,
-        Word::Unknown => true,
+    match word {
+        Word::Push(k) => slots.push(bit_of(assignment, k)),
+        Word::And => {
+            let (older, latest) = take_two(slots);
+            slots.push(older & latest);
+        }
+        Word::Or => {
+            let (older, latest) = take_two(slots);
+            slots.push(older | latest);
+        }
+        Word::Yes => slots.push(true),
+        // No program that passed has one.
+        Word::Unknown => {}
     }
 }
 
@@ -57,29 +61,16 @@ fn obey(program: &[u8], assignment: u64) -> bool
     requires { Ends (saying (bit assignment)) program.now }
     ensures { result ≡ value (bit assignment) (tree_of program.now) }
 {
-    let mut slots = [false; MAX_SLOTS];
-    let mut top: usize = 0;
-    let mut at: usize = 0;
-    while at < program.len() {
-        let w = word_of(program[at]);
-        if is_operator(w) {
-            slots[top - 2] = join(w, slots[top - 2], slots[top - 1]);
-            top -= 1;
-            at += 1;
-        } else {
-            slots[top] = push(w, assignment);
-            top += 1;
-            at += 1;
-        }
+    let mut slots = Slots::new();
+    for byte in program {
+        obey_word(Word::from(*byte), assignment, &mut slots);
     }
     slots[0]
 }
 
-pub fn run(program: &[u8], count: usize, assignment: u64) -> Ran
+pub fn run(program: &[u8], count: usize, assignment: u64) -> Result<bool, Refusal>
     ensures { told result ≡ ran program.now count assignment }
 {
-    match check(program, count) {
-        Outcome::Good => Ran::Answer(obey(program, assignment)),
-        Outcome::Refused(why) => Ran::Refused(why),
-    }
+    check(program, count)?;
+    Ok(obey(program, assignment))
 }

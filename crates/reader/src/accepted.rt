@@ -1,122 +1,122 @@
-// An accepted line: its name in normal form, and each of its parts.
-use crate::arguments::PATH;
-use crate::details::{put_comparisons, put_program, put_spans, put_warnings};
-use crate::parts::{part_of, sum};
-use crate::place::{Place, put_heading};
-use crate::shown::put_shown;
+// An accepted line in full: its name in normal form, and each of its parts.
+use crate::answer::Answer;
+use crate::shown::{Shown, between, part, trimmed};
 use cursor::Cursor;
-use figures::{
-    COUNT, COUNT_FIGURES, LINE_COMPARISONS, LINE_EXTRAS, LINE_HAS_URL, LINE_NAME_LENGTH,
-    LINE_NAME_START, LINE_SPECIFIERS, LINE_URL_LENGTH, LINE_URL_START, LINE_WARNINGS, LINE_WORDS,
-    LineFigures,
-};
-use input::HELD;
-use marker_store::{Comparisons, Warnings, Words};
-use output::{ROOM, Streams, put, put_part, put_text};
-use spans::SpanNumbers;
+use figures::{LINE_COMPARISONS, LINE_EXTRAS, LINE_SPECIFIERS, LINE_WARNINGS, LINE_WORDS};
+use marker_kind::WarningKind;
+use marker_store::{load_comparison, load_warning};
+use output::Output;
+use program_check::{MAX_WORDS, Word};
+use refusal::Span;
+use spans::{SpanNumbers, gather};
+use std::fmt::Write;
+use wording::Parts;
 
-// As long as a name can be.
-pub const NAME: usize = Cursor::MAX_LINE;
-
-// How long the normal form is that now stands at the front of the array.
-fn normalise(line: &[u8], from: usize, to: usize, normal: &mut [u8; NAME]) -> usize {
-    let mut figures = [0usize; COUNT_FIGURES];
-    if from <= to && to <= line.len() {
-        gateway::hulmisker_normalise(&line[from..to], normal, &mut figures);
-    }
-    figures[COUNT]
-}
-
-fn normalise_held(line: &[u8; HELD], start: usize, len: usize, normal: &mut [u8; NAME]) -> usize {
-    normalise(line, start, sum(start, len), normal)
-}
-
-fn put_front(
-    streams: Streams,
-    out: &mut [u8; ROOM],
-    at: usize,
-    text: &[u8; NAME],
-    n: usize,
-) -> usize {
-    put_part(streams, out, at, text, 0, n)
-}
-
-pub fn put_normal_name(
-    streams: Streams,
-    out: &mut [u8; ROOM],
-    at: usize,
-    line: &[u8; HELD],
-    start: usize,
-    len: usize,
-    normal: &mut [u8; NAME],
-) -> usize {
-    let n = normalise_held(line, start, len, normal);
-    put_front(streams, out, at, normal, n)
-}
-
-fn put_url(
-    streams: Streams,
-    out: &mut [u8; ROOM],
-    at: usize,
-    line: &[u8; HELD],
-    figures: &LineFigures,
-) -> usize {
-    if figures[LINE_HAS_URL] == 0 {
-        return at;
-    }
-    let n = put_text(streams, out, at, b"    URL: ");
-    let url = part_of(figures[LINE_URL_START], figures[LINE_URL_LENGTH]);
-    let n = put_shown(streams, out, n, line, url);
-    put(streams, out, n, b'\n')
-}
-
-pub fn put_accepted(
-    streams: Streams,
-    out: &mut [u8; ROOM],
-    at: usize,
-    path: &[u8; PATH],
-    place: Place,
-    line: &[u8; HELD],
-    figures: &LineFigures,
-    extras: &SpanNumbers,
-    specifiers: &SpanNumbers,
-    comparisons: &Comparisons,
-    warnings: &Warnings,
-    words: &Words,
-    normal: &mut [u8; NAME],
-) -> usize {
-    let n = put_heading(streams, out, at, path, place, b"accepted ");
-    let name = figures[LINE_NAME_START];
-    let n = put_normal_name(
-        streams,
+pub fn put_accepted(out: &mut Output, line: &[u8], answer: &mut Answer) {
+    out.text(b"accepted ");
+    out.text(answer.normal_name(line));
+    out.put(b'\n');
+    let parts = &answer.parts;
+    let figures = &parts.figures;
+    put_spans(
         out,
-        n,
         line,
-        name,
-        figures[LINE_NAME_LENGTH],
-        normal,
-    );
-    let n = put(streams, out, n, b'\n');
-    let n = put_spans(
-        streams,
-        out,
-        n,
-        b"    extras:",
-        line,
-        extras,
+        "    extras: ",
+        &parts.extras,
         figures[LINE_EXTRAS],
     );
-    let texts = figures[LINE_SPECIFIERS];
-    let n = put_spans(streams, out, n, b"    specifiers:", line, specifiers, texts);
-    let n = put_url(streams, out, n, line, figures);
-    let n = put_comparisons(
-        streams,
+    put_spans(
         out,
-        n,
         line,
-        comparisons,
-        figures[LINE_COMPARISONS],
+        "    specifiers: ",
+        &parts.specifiers,
+        figures[LINE_SPECIFIERS],
     );
-    let n = put_warnings(streams, out, n, line, warnings, figures[LINE_WARNINGS]);
-    put_program(streams, out, n, words, figures[LINE_WORDS])
+    if let Some(url) = answer.url() {
+        let _ = writeln!(out, "    URL: {}", Shown(part(line, url)));
+    }
+    put_comparisons(out, line, parts);
+    put_warnings(out, line, parts);
+    let count = figures[LINE_WORDS].min(MAX_WORDS);
+    put_program(out, &parts.sheet.words[..count]);
+}
+
+// Extras or specifiers in a row, if there are any.
+fn put_spans(out: &mut Output, line: &[u8], label: &str, spans: &SpanNumbers, count: usize) {
+    if count == 0 {
+        return;
+    }
+    let count = count.min(Cursor::MAX_LIST);
+    let mut before = label;
+    for span in &gather(spans, count)[..count] {
+        let _ = write!(out, "{before}{}", Shown(trimmed(part(line, *span))));
+        before = ", ";
+    }
+    out.put(b'\n');
+}
+
+// The literal is shown with its quotes, which stand around its span.
+fn quoted(line: &[u8], literal: Span) -> &[u8] {
+    let start = literal.start.0;
+    let end = start.saturating_add(literal.len);
+    between(line, start.saturating_sub(1), end.saturating_add(1))
+}
+
+fn put_comparisons(out: &mut Output, line: &[u8], parts: &Parts) {
+    for i in 0..parts.figures[LINE_COMPARISONS].min(Cursor::MAX_COMPARISONS) {
+        let one = load_comparison(&parts.sheet.comparisons, i);
+        let literal = Shown(quoted(line, one.literal));
+        let _ = writeln!(
+            out,
+            "    comparison {i}: {} {} {literal} ({})",
+            one.key, one.operator, one.sort
+        );
+    }
+}
+
+fn put_warnings(out: &mut Output, line: &[u8], parts: &Parts) {
+    for i in 0..parts.figures[LINE_WARNINGS].min(Cursor::MAX_COMPARISONS) {
+        let one = load_warning(&parts.sheet.warnings, i);
+        let place = one.span;
+        let text = Shown(part(line, place));
+        let _ = writeln!(
+            out,
+            "    warning of kind {} at {}, {}: {text}: {}",
+            one.kind,
+            place.start.0,
+            place.len,
+            meaning(one.kind)
+        );
+    }
+}
+
+// The kinds are 1 to 5.
+fn meaning(kind: usize) -> &'static str {
+    match WarningKind::try_from(kind) {
+        Ok(WarningKind::BadVersion) =>
+            "a version is compared with what is none, or in no valid way",
+        Ok(WarningKind::StringToName) => "a text is compared with a name",
+        Ok(WarningKind::StringCompatible) => "~= compares versions, and this is a text",
+        Ok(WarningKind::BadExtra) =>
+            "'extra' goes with == or != and a name in quotes that has a normal form",
+        Ok(WarningKind::TwoLiterals) | Err(_) => "two quoted values are compared",
+    }
+}
+
+// The words as numbers, and once more with the operators by name.
+fn put_program(out: &mut Output, words: &[u8]) {
+    out.text(b"    program:");
+    for word in words {
+        let _ = write!(out, " {word}");
+    }
+    out.text(b" =");
+    for word in words {
+        let _ = match Word::from(*word) {
+            Word::And => write!(out, " and"),
+            Word::Or => write!(out, " or"),
+            Word::Yes => write!(out, " yes"),
+            Word::Push(_) | Word::Unknown => write!(out, " {word}"),
+        };
+    }
+    out.put(b'\n');
 }

@@ -2,22 +2,20 @@
 #![tactic(auto)]
 
 mod accepted;
+mod answer;
 mod arguments;
-mod details;
-mod files;
 mod lines;
-mod parts;
 mod place;
-mod plain;
-mod reasons;
+mod reader;
 mod refused;
+mod report;
 mod shown;
 mod tally;
 
-use arguments::PATH;
-use input::HELD;
-use output::{ROOM, Streams};
-use tally::COUNTS;
+use arguments::{PATH, Path, Wanted};
+use output::Streams;
+use reader::Reader;
+use report::Style;
 
 fn usage(streams: Streams) {
     let _ = streams.err.write_all(
@@ -25,42 +23,24 @@ fn usage(streams: Streams) {
     );
 }
 
-// The last line: what was counted. Rows are for other tools and have none.
-fn end(streams: Streams, plain: bool, counts: &[u64; COUNTS], out: &mut [u8; ROOM], at: usize) {
-    let n = if plain {
-        at
-    } else {
-        tally::put_tally(streams, counts, out, at)
+fn run(rt: &HostRuntime, wanted: Wanted, path: &mut Path) {
+    let style = Style {
+        plain: wanted.plain,
+        named: wanted.files > 1,
     };
-    output::flush(streams, out, n);
-}
-
-fn run(rt: &HostRuntime, plain: bool, files: usize, path: &mut [u8; PATH]) {
-    let streams = Streams::of(rt);
-    let mut fetched = [0u8; input::ROOM];
-    let mut line = [0u8; HELD];
-    let mut out = [0u8; ROOM];
-    let mut counts = [0u64; COUNTS];
-    let at = files::read_all(
-        rt,
-        streams,
-        plain,
-        files,
-        path,
-        &mut fetched,
-        &mut line,
-        &mut counts,
-        &mut out,
-    );
-    end(streams, plain, &counts, &mut out, at);
+    let mut reader = Reader::new(Streams::of(rt), style);
+    if wanted.files == 0 {
+        reader.read_input(rt, b"-");
+    } else {
+        reader.read_arguments(rt, path);
+    }
+    reader.end();
 }
 
 fn main(rt: HostRuntime) {
     let mut path = [0u8; PATH];
-    let wanted = arguments::survey(&rt, &mut path);
-    if wanted.unknown {
-        usage(Streams::of(&rt));
-    } else {
-        run(&rt, wanted.plain, wanted.files, &mut path);
+    match arguments::survey(&rt, &mut path) {
+        Some(wanted) => run(&rt, wanted, &mut path),
+        None => usage(Streams::of(&rt)),
     }
 }

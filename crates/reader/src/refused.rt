@@ -1,117 +1,76 @@
-// A refused line: the number and the reason, and the line with its fault marked.
-use crate::arguments::PATH;
-use crate::details::put_place;
-use crate::parts::{Part, sum};
-use crate::place::{Place, put_heading};
-use crate::reasons::put_reason;
-use crate::shown::{put_shown, put_times};
-use figures::{LENGTH, LineFigures, START};
-use input::HELD;
-use output::{ROOM, Streams, put, put_number, put_text};
+// A refused line in full: the number and the reason, and the line with its fault marked.
+use crate::lines::Line;
+use crate::shown::{Shown, between};
+use output::Output;
+use refusal::{Refusal, Span};
+use std::fmt::Write;
 
 // At most so many bytes of a line are shown, and of a longer line so many before the fault.
 const WIDTH: usize = 120;
 
 const BEFORE: usize = 60;
 
-fn less(a: usize, b: usize) -> usize {
-    if a < b { a } else { b }
+pub fn put_refused(out: &mut Output, line: Line, why: Refusal) {
+    let Refusal { fault, span } = why;
+    let start = span.start.0;
+    let _ = writeln!(
+        out,
+        "refused {} at {start}, {}: {fault}",
+        fault.number(),
+        span.len
+    );
+    let window = Window::around(start, line.len);
+    window.put_text(out, line);
+    window.put_marks(out, span);
 }
 
-fn window_start(len: usize, start: usize) -> usize {
-    if len <= WIDTH {
-        return 0;
+// What is shown of a line: from one place up to another.
+#[derive(Clone, Copy)]
+struct Window {
+    from: usize,
+    to: usize,
+}
+
+impl Window {
+    fn around(start: usize, len: usize) -> Window {
+        let from = if len <= WIDTH {
+            0
+        } else {
+            start.saturating_sub(BEFORE)
+        };
+        Window {
+            from,
+            to: len.min(from.saturating_add(WIDTH)),
+        }
     }
-    if start <= BEFORE {
-        return 0;
+
+    fn put_text(self, out: &mut Output, line: Line) {
+        let before = if 0 < self.from { ".." } else { "" };
+        let behind = if self.to < line.len { ".." } else { "" };
+        let text = Shown(between(line.held, self.from, self.to));
+        let _ = writeln!(out, "    {before}{text}{behind}");
     }
-    start - BEFORE
-}
 
-fn window(len: usize, start: usize) -> Part {
-    let from = window_start(len, start);
-    Part {
-        from,
-        to: less(len, sum(from, WIDTH)),
+    // A mark below each byte of the span that is shown, and one at least.
+    fn put_marks(self, out: &mut Output, span: Span) {
+        let start = span.start.0;
+        let before: usize = if 0 < self.from { 6 } else { 4 };
+        put_times(
+            out,
+            b' ',
+            before.saturating_add(start.saturating_sub(self.from)),
+        );
+        put_times(
+            out,
+            b'^',
+            span.len.min(self.to.saturating_sub(start)).max(1),
+        );
+        out.put(b'\n');
     }
 }
 
-fn put_cut(streams: Streams, out: &mut [u8; ROOM], at: usize, cut: bool) -> usize {
-    if cut {
-        put_text(streams, out, at, b"..")
-    } else {
-        at
+fn put_times(out: &mut Output, byte: u8, times: usize) {
+    for _ in 0..times {
+        out.put(byte);
     }
-}
-
-fn put_window(
-    streams: Streams,
-    out: &mut [u8; ROOM],
-    at: usize,
-    line: &[u8; HELD],
-    len: usize,
-    part: Part,
-) -> usize {
-    let n = put_text(streams, out, at, b"    ");
-    let n = put_cut(streams, out, n, 0 < part.from);
-    let n = put_shown(streams, out, n, line, part);
-    let n = put_cut(streams, out, n, part.to < len);
-    put(streams, out, n, b'\n')
-}
-
-fn difference(a: usize, b: usize) -> usize {
-    if b < a { a - b } else { 0 }
-}
-
-// A mark below each byte of the span that is shown, and one at least.
-fn put_marks(
-    streams: Streams,
-    out: &mut [u8; ROOM],
-    at: usize,
-    part: Part,
-    start: usize,
-    len: usize,
-) -> usize {
-    let before = if 0 < part.from { 6 } else { 4 };
-    let n = put_times(streams, out, at, b' ', before);
-    let n = put_times(streams, out, n, b' ', difference(start, part.from));
-    let n = put(streams, out, n, b'^');
-    let marks = less(len, difference(part.to, start));
-    let n = put_times(streams, out, n, b'^', difference(marks, 1));
-    put(streams, out, n, b'\n')
-}
-
-fn put_fault(
-    streams: Streams,
-    out: &mut [u8; ROOM],
-    at: usize,
-    number: u8,
-    start: usize,
-    len: usize,
-) -> usize {
-    let n = put_number(streams, out, at, number as u64);
-    let n = put_place(streams, out, n, start, len);
-    let n = put_text(streams, out, n, b": ");
-    let n = put_reason(streams, out, n, number);
-    put(streams, out, n, b'\n')
-}
-
-pub fn put_refused(
-    streams: Streams,
-    out: &mut [u8; ROOM],
-    at: usize,
-    path: &[u8; PATH],
-    place: Place,
-    line: &[u8; HELD],
-    line_len: usize,
-    number: u8,
-    figures: &LineFigures,
-) -> usize {
-    let start = figures[START];
-    let len = figures[LENGTH];
-    let part = window(line_len, start);
-    let n = put_heading(streams, out, at, path, place, b"refused ");
-    let n = put_fault(streams, out, n, number, start, len);
-    let n = put_window(streams, out, n, line, line_len, part);
-    put_marks(streams, out, n, part, start, len)
 }

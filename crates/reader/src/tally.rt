@@ -1,116 +1,82 @@
-// How many lines there were of each kind. A count stands in a lent array: accepted lines at 0, those refused by a number at this number.
-use output::{ROOM, Streams, put_number, put_text};
+// How many lines there were of each kind, and how many files were not read.
+use refusal::Fault;
+use std::fmt;
 
-pub const COUNTS: usize = 35;
+// One more than the highest number of a fault. None has 0.
+const NUMBERS: usize = 42;
 
-pub const PASSED_OVER: usize = 32;
+#[derive(Drop)]
+pub struct Tally {
+    pub lines: u64,
+    accepted: u64,
+    // At each number, how many lines it refused.
+    refused: [u64; NUMBERS],
+    passed_over: u64,
+    // So many files.
+    not_read: u64,
+}
 
-pub const LINES: usize = 33;
+fn add_one(count: &mut u64) {
+    *count = count.saturating_add(1);
+}
 
-pub const NOT_READ: usize = 34;
-
-pub fn count(counts: &mut [u64; COUNTS], kind: usize) {
-    if kind < COUNTS {
-        let n = counts[kind];
-        if n < u64::MAX {
-            counts[kind] = n + 1;
+impl Tally {
+    pub fn none() -> Tally {
+        Tally {
+            lines: 0,
+            accepted: 0,
+            refused: [0; NUMBERS],
+            passed_over: 0,
+            not_read: 0,
         }
     }
-}
 
-pub fn counted(counts: &[u64; COUNTS], kind: usize) -> u64 {
-    if kind < COUNTS { counts[kind] } else { 0 }
-}
-
-fn sum(a: u64, b: u64) -> u64 {
-    if b <= u64::MAX - a { a + b } else { u64::MAX }
-}
-
-fn refused_in_all(counts: &[u64; COUNTS]) -> u64 {
-    let mut all: u64 = 0;
-    let mut number: usize = 1;
-    while number < 32 {
-        all = sum(all, counted(counts, number));
-        number += 1;
+    pub fn count_line(&mut self) {
+        add_one(&mut self.lines);
     }
-    all
-}
 
-fn put_counted(streams: Streams, out: &mut [u8; ROOM], at: usize, what: &[u8], n: u64) -> usize {
-    let at = put_text(streams, out, at, what);
-    put_number(streams, out, at, n)
-}
+    pub fn count_accepted(&mut self) {
+        add_one(&mut self.accepted);
+    }
 
-fn put_joint(streams: Streams, out: &mut [u8; ROOM], at: usize, first: bool) -> usize {
-    if first {
-        put_text(streams, out, at, b" (")
-    } else {
-        put_text(streams, out, at, b", ")
+    pub fn count_refused(&mut self, fault: Fault) {
+        add_one(&mut self.refused[fault.number() as usize]);
+    }
+
+    pub fn count_passed_over(&mut self) {
+        add_one(&mut self.passed_over);
+    }
+
+    pub fn count_not_read(&mut self) {
+        add_one(&mut self.not_read);
     }
 }
 
-fn put_refusal(
-    streams: Streams,
-    out: &mut [u8; ROOM],
-    at: usize,
-    counts: &[u64; COUNTS],
-    number: usize,
-    first: bool,
-) -> usize {
-    let n = put_joint(streams, out, at, first);
-    let n = put_counted(streams, out, n, b"number ", number as u64);
-    put_counted(streams, out, n, b": ", counted(counts, number))
-}
-
-// How many lines each number refused, if any did.
-fn put_refusals(
-    streams: Streams,
-    out: &mut [u8; ROOM],
-    at: usize,
-    counts: &[u64; COUNTS],
-) -> usize {
-    let mut n = at;
-    let mut first = true;
-    let mut number: usize = 1;
-    while number < 32 {
-        if counted(counts, number) > 0 {
-            n = put_refusal(streams, out, n, counts, number, first);
-            first = false;
+impl fmt::Display for Tally {
+    fn fmt<W: fmt::Write>(&self, f: &mut fmt::Formatter<W>) -> fmt::Result {
+        let refused = self
+            .refused
+            .iter()
+            .fold(0u64, |all, lines| all.saturating_add(*lines));
+        write!(
+            f,
+            "lines {}, accepted {}, refused {refused}",
+            self.lines, self.accepted
+        )?;
+        let mut before = " (";
+        for (number, lines) in self.refused.iter().enumerate() {
+            if *lines > 0 {
+                write!(f, "{before}number {number}: {lines}")?;
+                before = ", ";
+            }
         }
-        number += 1;
+        if refused > 0 {
+            f.write_str(")")?;
+        }
+        write!(f, ", passed over {}", self.passed_over)?;
+        if self.not_read > 0 {
+            write!(f, ", files not read {}", self.not_read)?;
+        }
+        Ok(())
     }
-    if first {
-        n
-    } else {
-        put_text(streams, out, n, b")")
-    }
-}
-
-fn put_not_read(streams: Streams, out: &mut [u8; ROOM], at: usize, files: u64) -> usize {
-    if files > 0 {
-        put_counted(streams, out, at, b", files not read ", files)
-    } else {
-        at
-    }
-}
-
-pub fn put_tally(
-    streams: Streams,
-    counts: &[u64; COUNTS],
-    out: &mut [u8; ROOM],
-    at: usize,
-) -> usize {
-    let n = put_counted(streams, out, at, b"lines ", counted(counts, LINES));
-    let n = put_counted(streams, out, n, b", accepted ", counted(counts, 0));
-    let n = put_counted(streams, out, n, b", refused ", refused_in_all(counts));
-    let n = put_refusals(streams, out, n, counts);
-    let n = put_counted(
-        streams,
-        out,
-        n,
-        b", passed over ",
-        counted(counts, PASSED_OVER),
-    );
-    let n = put_not_read(streams, out, n, counted(counts, NOT_READ));
-    put_text(streams, out, n, b"\n")
 }

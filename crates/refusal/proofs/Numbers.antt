@@ -4,12 +4,11 @@ use mathlib.Core.Path.{◌≡◌, refl, sym, ap, ◌∙◌}
 use mathlib.Core.List.{List, [], ◌∷◌, map}
 use Prim.Native.Nat.{ℕ, zero, suc, ◌-◌}
 use lib.ListN.{get_or}
+use Rattle.std.specs.Prelude.{Result, Ok, Err}
 use Rattle.refusal.specs.Answer.{refused}
 use Rattle.refusal.specs.Refusal.{fault_number, faults, refusal, given, told}
 use Rattle.refusal.specs.declared.fault.Fault.{Fault}
 use Rattle.refusal.specs.declared.fault.Fault.TheVariants.{TooLong, NotAscii, NameMissing, NameStart, NameEnd, ExtrasOpen, ExtrasComma, ExtraStart, ExtraJoin, ExtraAfter, ExtraEnd, ExtrasMany, UrlEmpty, VersionBad, SpecifiersOpen, SpecifiersMany, LineGoesOn, ValueMissing, ValueUnknown, OperatorUnknown, NotUnspaced, ExpectedFoundEnd, ExpectedFoundOther, MarkerGoesOn, TooDeep, ComparisonsMany, WarningsMany, NameBad, OutputShort, ProgramBad, CountOver, SegmentsMany, TextEnded, NumberRepeated, RecordBad, LinesMany, CabinetBad, ClaimWrong, ClaimOutside, ClaimOpen, PieceLong}
-use Rattle.refusal.specs.declared.fault.Outcome.{Outcome}
-use Rattle.refusal.specs.declared.fault.Outcome.TheVariants.{Good, Refused}
 use Rattle.refusal.specs.declared.fault.Refusal.{Refusal}
 
 -- from its number a fault is found again
@@ -80,12 +79,12 @@ given_own v w e =
       span = record { start = record { 0 = start i }; len = len i };
     }
 
--- and an outcome told so leaves one outcome
-pub told_own : (v w : Outcome) → told v ≡ told w → v ≡ w
-told_own Good Good e = refl
-told_own Good (Refused w) e = unfold given in cc
-told_own (Refused v) Good e = unfold given in cc
-told_own (Refused v) (Refused w) e = ap Refused (given_own v w e)
+-- and a result told so leaves one result
+pub told_own : {A : Type 0} (v w : Result A Refusal) → told v ≡ told w → v ≡ w
+told_own (Ok v) (Ok w) e = cc
+told_own (Ok v) (Err w) e = unfold given in cc
+told_own (Err v) (Ok w) e = unfold given in cc
+told_own (Err v) (Err w) e = ap Err (given_own v w e)
 
 -- a refusal that the code made, in the documents' terms
 pub given_is : {A : Type 0} (why : Refusal) (f : Fault) (a b n m : ℕ) → why ≡ refusal f a n → a ≡ b → fault_number f ≡ m → given {A = A} why ≡ refused m b n

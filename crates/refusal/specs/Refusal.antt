@@ -1,10 +1,9 @@
 -- The refusal numbers, and a refusal's number, start and length.
-use Rattle.std.specs.Prelude.{ℕ, List, [], ◌∷◌}
-use Rattle.refusal.specs.Answer.{Answer, refused, passes}
+use Rattle.std.specs.Prelude.{◌≡◌, ℕ, ◌<◌, ◌⊎◌, List, [], ◌∷◌, Result, Ok, Err, MatchResult}
+use Rattle.refusal.specs.Answer.{Answer, good, refused}
 use Rattle.refusal.specs.declared.fault.Fault.{Fault}
 use Rattle.refusal.specs.declared.fault.Fault.TheVariants.{TooLong, NotAscii, NameMissing, NameStart, NameEnd, ExtrasOpen, ExtrasComma, ExtraStart, ExtraJoin, ExtraAfter, ExtraEnd, ExtrasMany, UrlEmpty, VersionBad, SpecifiersOpen, SpecifiersMany, LineGoesOn, ValueMissing, ValueUnknown, OperatorUnknown, NotUnspaced, ExpectedFoundEnd, ExpectedFoundOther, MarkerGoesOn, TooDeep, ComparisonsMany, WarningsMany, NameBad, OutputShort, ProgramBad, CountOver, SegmentsMany, TextEnded, NumberRepeated, RecordBad, LinesMany, CabinetBad, ClaimWrong, ClaimOutside, ClaimOpen, PieceLong}
-use Rattle.refusal.specs.declared.fault.Outcome.{Outcome}
-use Rattle.refusal.specs.declared.fault.Outcome.TheVariants.{Good, Refused}
+use Rattle.refusal.specs.declared.fault.NoFault.{NoFault}
 use Rattle.refusal.specs.declared.fault.Refusal.{Refusal}
 use Rattle.refusal.specs.declared.place.Span.{Span}
 
@@ -63,11 +62,15 @@ fault_number PieceLong = 41  -- piece over 512 bytes
 abbrev pub faults : List Fault
 faults = TooLong ∷ NotAscii ∷ NameMissing ∷ NameStart ∷ NameEnd ∷ ExtrasOpen ∷ ExtrasComma ∷ ExtraStart ∷ ExtraJoin ∷ ExtraAfter ∷ ExtraEnd ∷ ExtrasMany ∷ UrlEmpty ∷ VersionBad ∷ SpecifiersOpen ∷ SpecifiersMany ∷ LineGoesOn ∷ ValueMissing ∷ ValueUnknown ∷ OperatorUnknown ∷ NotUnspaced ∷ ExpectedFoundEnd ∷ ExpectedFoundOther ∷ MarkerGoesOn ∷ TooDeep ∷ ComparisonsMany ∷ WarningsMany ∷ NameBad ∷ OutputShort ∷ ProgramBad ∷ CountOver ∷ SegmentsMany ∷ TextEnded ∷ NumberRepeated ∷ RecordBad ∷ LinesMany ∷ CabinetBad ∷ ClaimWrong ∷ ClaimOutside ∷ ClaimOpen ∷ PieceLong ∷ []
 
+-- the fault of a number, or the number itself if no fault has it
+abbrev pub Numbers : ℕ → Result Fault NoFault → Type 0
+Numbers n r = MatchResult r (λ fault. fault_number fault ≡ n) (λ e. (e.0 ≡ n) × ((n ≡ 0) ⊎ (41 < n)))
+
 -- a refusal as an answer: its number, start and length
 unfoldable pub given : {A : Type 0} → Refusal → Answer A
 given why = refused (fault_number why.fault) why.span.start.0 why.span.len
 
--- an outcome as an answer
-abbrev pub told : Outcome → Answer (Unit {0})
-told Good = passes
-told (Refused why) = given why
+-- a result as an answer: its value, or its refusal
+abbrev pub told : {A : Type 0} → Result A Refusal → Answer A
+told (Ok a) = good a
+told (Err why) = given why

@@ -4,5 +4,5 @@
 mod fault;
 mod place;
 
-pub use fault::{Fault, Outcome, Refusal};
+pub use fault::{Fault, NoFault, Refusal};
 pub use place::{ComparisonNumber, Offset, Span};

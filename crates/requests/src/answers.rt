@@ -1,324 +1,152 @@
 // The answer of each entry, in words.
-ghost use Rattle.std.specs.Prelude.{◌≤◌, max};
-ghost use Rattle.output.specs.Room.{most_waiting};
-
-use crate::fields::{Entry, Request};
-use crate::{DATA, OUT};
+use crate::OUT;
+use crate::fields::Entry;
 use figures::{
-    COUNT, COUNT_FIGURES, CountFigures, LENGTH, LINE_FIGURES, MARKER_COMPARISONS, MARKER_FIGURES,
-    MARKER_WARNINGS, MARKER_WORDS, PLACE_FIGURES, START,
+    COUNT, COUNT_FIGURES, LENGTH, MARKER_COMPARISONS, MARKER_FIGURES, MARKER_WARNINGS,
+    MARKER_WORDS, PLACE_FIGURES, PlaceFigures, START,
 };
-use marker_store::{COMPARISONS_ROOM, Counts, WARNINGS_ROOM};
-use output::{ROOM, Streams, put, put_hex, put_number, put_text};
-use program_check::MAX_WORDS;
+use marker_store::{Counts, Sheet};
+use output::Output;
 use spans::LIST_NUMBERS;
-use wording::{put_marker, put_parts, put_refused, put_spans};
+use std::fmt::Write;
+use wording::{Parts, put_marker, put_parts, put_refused, put_spans};
 
 // What each byte of an output holds before the normaliser is asked.
 const BEFORE: u8 = 170;
 
-pub fn put_bad(streams: Streams, buf: &mut [u8; ROOM], at: usize) -> usize
-    ensures { result ≤ max at most_waiting }
-{
-    put_text(streams, buf, at, b"bad request")
+pub fn put_bad(out: &mut Output) {
+    out.text(b"bad request");
 }
 
 // A number of 0 is no refusal.
-fn put_verdict(
-    streams: Streams,
-    buf: &mut [u8; ROOM],
-    at: usize,
-    number: u8,
-    start: usize,
-    len: usize,
-) -> usize
-    ensures { result ≤ max at most_waiting }
-{
+fn put_verdict(out: &mut Output, number: u8, start: usize, len: usize) {
     if number == 0 {
-        put_text(streams, buf, at, b"ok")
+        out.text(b"ok");
     } else {
-        put_refused(streams, buf, at, number, start, len)
+        put_refused(out, number, start, len);
     }
 }
 
-fn put_line(streams: Streams, text: &[u8], buf: &mut [u8; ROOM], at: usize) -> usize
-    ensures { result ≤ max at most_waiting }
+// Where the answer is a verdict alone.
+fn put_answered<F: FnOnce(&mut PlaceFigures) -> u8>(out: &mut Output, ask: F)
+    requires { (figures : _) → F.pre ask figures }
 {
-    let mut figures = [0usize; LINE_FIGURES];
-    let mut extras = [0usize; LIST_NUMBERS];
-    let mut specifiers = [0usize; LIST_NUMBERS];
-    let mut comparisons = [0usize; COMPARISONS_ROOM];
-    let mut warnings = [0usize; WARNINGS_ROOM];
-    let mut words = [0u8; MAX_WORDS];
+    let mut figures = [0; PLACE_FIGURES];
+    let number = ask(&mut figures);
+    put_verdict(out, number, figures[START], figures[LENGTH]);
+}
+
+fn put_line(out: &mut Output, text: &[u8]) {
+    let mut parts = Parts::blank();
     let number = gateway::hulmisker_line(
         text,
-        &mut figures,
-        &mut extras,
-        &mut specifiers,
-        &mut comparisons,
-        &mut warnings,
-        &mut words,
+        &mut parts.figures,
+        &mut parts.extras,
+        &mut parts.specifiers,
+        &mut parts.sheet.comparisons,
+        &mut parts.sheet.warnings,
+        &mut parts.sheet.words,
     );
     if 0 < number {
-        return put_refused(streams, buf, at, number, figures[START], figures[LENGTH]);
+        put_refused(out, number, parts.figures[START], parts.figures[LENGTH]);
+        return;
     }
-    let n = put_text(streams, buf, at, b"ok ");
-    put_parts(
-        streams,
-        buf,
-        n,
-        &figures,
-        &extras,
-        &specifiers,
-        &comparisons,
-        &warnings,
-        &words,
-    )
+    out.text(b"ok ");
+    put_parts(out, &parts);
 }
 
-fn put_extras(streams: Streams, text: &[u8], buf: &mut [u8; ROOM], at: usize) -> usize
-    ensures { result ≤ max at most_waiting }
-{
-    let mut figures = [0usize; COUNT_FIGURES];
-    let mut extras = [0usize; LIST_NUMBERS];
+fn put_extras(out: &mut Output, text: &[u8]) {
+    let mut figures = [0; COUNT_FIGURES];
+    let mut extras = [0; LIST_NUMBERS];
     let number = gateway::hulmisker_extras(text, &mut figures, &mut extras);
     if 0 < number {
-        return put_refused(streams, buf, at, number, figures[START], figures[LENGTH]);
+        put_refused(out, number, figures[START], figures[LENGTH]);
+        return;
     }
-    put_spans(streams, buf, at, b"ok extras=", &extras, figures[COUNT])
+    put_spans(out, b"ok extras=", &extras, figures[COUNT]);
 }
 
-fn put_marker_alone(streams: Streams, text: &[u8], buf: &mut [u8; ROOM], at: usize) -> usize
-    ensures { result ≤ max at most_waiting }
-{
-    let mut figures = [0usize; MARKER_FIGURES];
-    let mut comparisons = [0usize; COMPARISONS_ROOM];
-    let mut warnings = [0usize; WARNINGS_ROOM];
-    let mut words = [0u8; MAX_WORDS];
+fn put_marker_alone(out: &mut Output, text: &[u8]) {
+    let mut figures = [0; MARKER_FIGURES];
+    let mut sheet = Sheet::blank();
     let number = gateway::hulmisker_marker(
         text,
         &mut figures,
-        &mut comparisons,
-        &mut warnings,
-        &mut words,
+        &mut sheet.comparisons,
+        &mut sheet.warnings,
+        &mut sheet.words,
     );
     if 0 < number {
-        return put_refused(streams, buf, at, number, figures[START], figures[LENGTH]);
+        put_refused(out, number, figures[START], figures[LENGTH]);
+        return;
     }
-    let n = put_text(streams, buf, at, b"ok");
+    out.text(b"ok");
     let counts = Counts {
         kept: figures[MARKER_COMPARISONS],
         warned: figures[MARKER_WARNINGS],
         words: figures[MARKER_WORDS],
     };
-    put_marker(streams, buf, n, &comparisons, &warnings, &words, counts)
+    put_marker(
+        out,
+        &sheet.comparisons,
+        &sheet.warnings,
+        &sheet.words,
+        counts,
+    );
 }
 
-fn put_version(streams: Streams, text: &[u8], buf: &mut [u8; ROOM], at: usize) -> usize
-    ensures { result ≤ max at most_waiting }
-{
-    let mut figures = [0usize; PLACE_FIGURES];
-    let number = gateway::hulmisker_version(text, &mut figures);
-    put_verdict(streams, buf, at, number, figures[START], figures[LENGTH])
-}
-
-fn put_pattern(streams: Streams, text: &[u8], buf: &mut [u8; ROOM], at: usize) -> usize
-    ensures { result ≤ max at most_waiting }
-{
-    let mut figures = [0usize; PLACE_FIGURES];
-    let number = gateway::hulmisker_pattern(text, &mut figures);
-    put_verdict(streams, buf, at, number, figures[START], figures[LENGTH])
-}
-
-fn put_specifier(streams: Streams, text: &[u8], buf: &mut [u8; ROOM], at: usize) -> usize
-    ensures { result ≤ max at most_waiting }
-{
-    let mut figures = [0usize; PLACE_FIGURES];
-    let number = gateway::hulmisker_specifier(text, &mut figures);
-    put_verdict(streams, buf, at, number, figures[START], figures[LENGTH])
-}
-
-fn fill(out: &mut [u8; OUT], room: usize) {
-    let mut i: usize = 0;
-    while i < room && i < OUT {
-        out[i] = BEFORE;
-        i += 1;
+// `-` for none.
+fn put_bytes(out: &mut Output, bytes: &[u8]) {
+    if bytes.is_empty() {
+        out.put(b'-');
+    }
+    for byte in bytes {
+        out.hex(*byte);
     }
 }
 
-fn normalise_into(name: &[u8], out: &mut [u8], room: usize, figures: &mut CountFigures) -> u8 {
-    if room <= out.len() {
-        gateway::hulmisker_normalise(name, &mut out[..room], figures)
-    } else {
-        0
+// The verdict, the length of the normal form where there is one, and the room that was lent for it.
+fn put_normalised(out: &mut Output, name: &[u8], normal: &mut [u8]) {
+    normal.fill(BEFORE);
+    let mut figures = [0; COUNT_FIGURES];
+    let number = gateway::hulmisker_normalise(name, normal, &mut figures);
+    put_verdict(out, number, figures[START], figures[LENGTH]);
+    if number == 0 {
+        let _ = write!(out, " {}", figures[COUNT]);
     }
+    out.text(b" out=");
+    put_bytes(out, normal);
 }
 
-fn normalise_front(
-    name: &[u8],
-    out: &mut [u8; OUT],
-    room: usize,
-    figures: &mut CountFigures,
-) -> u8 {
-    normalise_into(name, out, room, figures)
-}
-
-fn put_bytes(
-    streams: Streams,
-    buf: &mut [u8; ROOM],
-    at: usize,
-    out: &[u8; OUT],
-    room: usize,
-) -> usize
-    ensures { result ≤ max at most_waiting }
-{
-    let mut n = at;
-    let mut i: usize = 0;
-    while i < room && i < OUT {
-        n = put_hex(streams, buf, n, out[i]);
-        i += 1;
-    }
-    n
-}
-
-// The first bytes of an output, `-` for none.
-fn put_out(streams: Streams, buf: &mut [u8; ROOM], at: usize, out: &[u8; OUT], room: usize) -> usize
-    ensures { result ≤ max at most_waiting }
-{
-    let n = put_text(streams, buf, at, b" out=");
-    if room == 0 {
-        put(streams, buf, n, b'-')
-    } else {
-        put_bytes(streams, buf, n, out, room)
-    }
-}
-
-fn put_normalised(
-    streams: Streams,
-    name: &[u8],
-    out: &mut [u8; OUT],
-    room: usize,
-    buf: &mut [u8; ROOM],
-    at: usize,
-) -> usize
-    ensures { result ≤ max at most_waiting }
-{
-    if OUT < room {
-        return put_bad(streams, buf, at);
-    }
-    fill(out, room);
-    let mut figures = [0usize; COUNT_FIGURES];
-    let number = normalise_front(name, out, room, &mut figures);
-    let n = put_verdict(streams, buf, at, number, figures[START], figures[LENGTH]);
-    let n = put_length(streams, buf, n, number, figures[COUNT]);
-    put_out(streams, buf, n, out, room)
-}
-
-// The length of a normal form, where there is one.
-fn put_length(streams: Streams, buf: &mut [u8; ROOM], at: usize, number: u8, len: usize) -> usize
-    ensures { result ≤ max at most_waiting }
-{
+fn put_run(out: &mut Output, program: &[u8], count: usize, assignment: u64) {
+    let mut figures = [0; COUNT_FIGURES];
+    let number = gateway::hulmisker_run(program, count, assignment, &mut figures);
     if 0 < number {
-        return at;
-    }
-    let n = put_text(streams, buf, at, b" ");
-    put_number(streams, buf, n, len as u64)
-}
-
-fn put_checked(
-    streams: Streams,
-    program: &[u8],
-    count: u64,
-    buf: &mut [u8; ROOM],
-    at: usize,
-) -> usize
-    ensures { result ≤ max at most_waiting }
-{
-    let mut figures = [0usize; PLACE_FIGURES];
-    let number = gateway::hulmisker_check(program, count as usize, &mut figures);
-    put_verdict(streams, buf, at, number, figures[START], figures[LENGTH])
-}
-
-fn put_yes_no(streams: Streams, buf: &mut [u8; ROOM], at: usize, answer: usize) -> usize
-    ensures { result ≤ max at most_waiting }
-{
-    if answer == 0 {
-        put_text(streams, buf, at, b"ok no")
+        put_refused(out, number, figures[START], figures[LENGTH]);
+    } else if figures[COUNT] == 0 {
+        out.text(b"ok no");
     } else {
-        put_text(streams, buf, at, b"ok yes")
+        out.text(b"ok yes");
     }
-}
-
-fn put_run(
-    streams: Streams,
-    program: &[u8],
-    count: u64,
-    assignment: u64,
-    buf: &mut [u8; ROOM],
-    at: usize,
-) -> usize
-    ensures { result ≤ max at most_waiting }
-{
-    let mut figures = [0usize; COUNT_FIGURES];
-    let number = gateway::hulmisker_run(program, count as usize, assignment, &mut figures);
-    if 0 < number {
-        return put_refused(streams, buf, at, number, figures[START], figures[LENGTH]);
-    }
-    put_yes_no(streams, buf, at, figures[COUNT])
 }
 
 // The answer on the bytes that the request spelled.
-fn put_entry(
-    streams: Streams,
-    request: Request,
-    text: &[u8],
-    out: &mut [u8; OUT],
-    buf: &mut [u8; ROOM],
-    at: usize,
-) -> usize
-    ensures { result ≤ max at most_waiting }
-{
-    let entry = request.entry;
+pub fn put_answer(out: &mut Output, entry: Entry, text: &[u8], normal: &mut [u8; OUT]) {
     match entry {
-        Entry::Bad => put_bad(streams, buf, at),
-        Entry::Line => put_line(streams, text, buf, at),
-        Entry::Extras => put_extras(streams, text, buf, at),
-        Entry::Marker => put_marker_alone(streams, text, buf, at),
-        Entry::Version => put_version(streams, text, buf, at),
-        Entry::Pattern => put_pattern(streams, text, buf, at),
-        Entry::Specifier => put_specifier(streams, text, buf, at),
-        Entry::Normalise => put_normalised(streams, text, out, request.first as usize, buf, at),
-        Entry::Check => put_checked(streams, text, request.first, buf, at),
-        Entry::Run => put_run(streams, text, request.first, request.second, buf, at),
+        Entry::Line => put_line(out, text),
+        Entry::Extras => put_extras(out, text),
+        Entry::Marker => put_marker_alone(out, text),
+        Entry::Version => put_answered(out, |tell| gateway::hulmisker_version(text, tell)),
+        Entry::Pattern => put_answered(out, |tell| gateway::hulmisker_pattern(text, tell)),
+        Entry::Specifier => put_answered(out, |tell| gateway::hulmisker_specifier(text, tell)),
+        Entry::Check { count } => {
+            let count = count as usize;
+            put_answered(out, |tell| gateway::hulmisker_check(text, count, tell));
+        }
+        Entry::Run { count, assignment } => put_run(out, text, count as usize, assignment),
+        Entry::Normalise { room } => match normal.get_mut(..room as usize) {
+            Some(normal) => put_normalised(out, text, normal),
+            None => put_bad(out),
+        },
     }
-}
-
-fn put_front(
-    streams: Streams,
-    request: Request,
-    data: &[u8],
-    out: &mut [u8; OUT],
-    buf: &mut [u8; ROOM],
-    at: usize,
-) -> usize
-    ensures { result ≤ max at most_waiting }
-{
-    let len = request.len;
-    if data.len() < len {
-        return put_bad(streams, buf, at);
-    }
-    put_entry(streams, request, &data[..len], out, buf, at)
-}
-
-pub fn put_answer(
-    streams: Streams,
-    request: Request,
-    data: &[u8; DATA],
-    out: &mut [u8; OUT],
-    buf: &mut [u8; ROOM],
-    at: usize,
-) -> usize
-    ensures { result ≤ max at most_waiting }
-{
-    put_front(streams, request, data, out, buf, at)
 }

@@ -1,265 +1,108 @@
-// The parts of a request: its entry, its numbers, its bytes.
-ghost use Rattle.std.specs.Prelude.{◌≤◌};
+// The parts of a request: its entry with the entry's numbers, and its bytes.
+ghost use Rattle.std.specs.Prelude.{◌<◌, IfSome};
 
-use crate::{DATA, MOST};
-use cursor::Cursor;
-use text::{byte_at, word_at};
+use crate::DATA;
 
-#[derive(Clone, Copy)]
+#[derive(Clone, Copy, Debug, PartialEq, Eq)]
 pub enum Entry {
-    Bad,
     Line,
     Extras,
     Marker,
     Version,
     Pattern,
     Specifier,
-    Normalise,
-    Check,
-    Run,
+    Normalise { room: u64 },
+    Check { count: u64 },
+    Run { count: u64, assignment: u64 },
 }
 
-#[derive(Clone, Copy)]
-pub struct Request {
-    pub entry: Entry,
-    pub first: u64,
-    pub second: u64,
-    pub len: usize,
+// What stands before the first blank, and what behind it.
+fn first_field(line: &[u8]) -> Option<(&[u8], &[u8])> {
+    let blank = line.iter().position(|byte| *byte == b' ')?;
+    Some((&line[..blank], &line[blank + 1..]))
 }
 
-// The entry, where its fields start, and how many numbers come before the bytes.
-#[derive(Clone, Copy)]
-struct Head {
-    entry: Entry,
-    at: usize,
-    numbers: u8,
-}
-
-// A number, and where the next field starts.
-#[derive(Clone, Copy)]
-struct Number {
-    value: u64,
-    after: usize,
-}
-
-#[derive(Clone, Copy)]
-enum Value {
-    Fits(u64),
-    Bad,
-}
-
-#[derive(Clone, Copy)]
-enum Pair {
-    Byte(u8),
-    Bad,
-}
-
-#[derive(Clone, Copy)]
-enum Bytes {
-    Spelled(usize),
-    Bad,
-}
-
-fn head_with(entry: Entry, at: usize, numbers: u8) -> Head {
-    Head { entry, at, numbers }
-}
-
-fn head_of(line: &[u8]) -> Head {
-    if word_at(line, 0, b"line ") {
-        return head_with(Entry::Line, 5, 0);
+// (Std's `to_digit` answers a u32, and takes capitals where the base is 16.)
+fn digit_of(byte: u8) -> Option<u8> {
+    match byte {
+        b'0'..=b'9' => Some(byte - b'0'),
+        _ => None,
     }
-    if word_at(line, 0, b"marker ") {
-        return head_with(Entry::Marker, 7, 0);
-    }
-    if word_at(line, 0, b"extras ") {
-        return head_with(Entry::Extras, 7, 0);
-    }
-    if word_at(line, 0, b"version ") {
-        return head_with(Entry::Version, 8, 0);
-    }
-    if word_at(line, 0, b"pattern ") {
-        return head_with(Entry::Pattern, 8, 0);
-    }
-    if word_at(line, 0, b"specifier ") {
-        return head_with(Entry::Specifier, 10, 0);
-    }
-    if word_at(line, 0, b"normalise ") {
-        return head_with(Entry::Normalise, 10, 1);
-    }
-    if word_at(line, 0, b"check ") {
-        return head_with(Entry::Check, 6, 1);
-    }
-    if word_at(line, 0, b"run ") {
-        return head_with(Entry::Run, 4, 2);
-    }
-    head_with(Entry::Bad, 0, 0)
-}
-
-fn digit_of(b: u8) -> u8
-    ensures { result ≤ 9 }
-{
-    match b {
-        b'0'..=b'9' => b - b'0',
-        _ => 0,
-    }
-}
-
-// What the digits from one place up to another come to.
-fn value_of(line: &[u8], from: usize, to: usize) -> Value {
-    let mut value: u64 = 0;
-    let mut at = from;
-    while at < to {
-        let digit = digit_of(byte_at(line, at)) as u64;
-        if (u64::MAX - digit) / 10 < value {
-            return Value::Bad;
-        }
-        value = value * 10 + digit;
-        at += 1;
-    }
-    Value::Fits(value)
 }
 
 // A number has 1 to 20 digits.
-fn value_between(line: &[u8], from: usize, to: usize) -> Value {
-    if to <= from {
-        return Value::Bad;
+fn number_of(digits: &[u8]) -> Option<u64> {
+    if digits.is_empty() || 20 < digits.len() {
+        return None;
     }
-    if 20 < to - from {
-        return Value::Bad;
+    let mut value: u64 = 0;
+    for byte in digits {
+        value = value.checked_mul(10)?.checked_add(digit_of(*byte)? as u64)?;
     }
-    value_of(line, from, to)
+    Some(value)
 }
 
-// Where no number stands, nothing is left behind it, so that the next field is bad too.
-fn no_number(line: &[u8]) -> Number {
-    Number {
-        value: 0,
-        after: line.len(),
-    }
+// The number in front, and what stands behind it and a blank.
+fn first_number(fields: &[u8]) -> Option<(u64, &[u8])> {
+    let (digits, rest) = first_field(fields)?;
+    Some((number_of(digits)?, rest))
 }
 
-// A blank stands behind a number.
-fn number_at(line: &[u8], from: usize) -> Number {
-    let start = Cursor { at: from };
-    let behind = start.take_digits(line);
-    let end = behind.at;
-    if line.len() <= end {
-        return no_number(line);
-    }
-    if line[end] != b' ' {
-        return no_number(line);
-    }
-    match value_between(line, from, end) {
-        Value::Fits(value) => Number {
-            value,
-            after: end + 1,
-        },
-        Value::Bad => no_number(line),
-    }
-}
-
-fn number_if(wanted: bool, line: &[u8], from: usize) -> Number {
-    if wanted {
-        return number_at(line, from);
-    }
-    Number {
-        value: 0,
-        after: from,
-    }
-}
-
-// 16 for a byte that is no digit; capitals are none.
-fn hex_value(b: u8) -> u8 {
-    match b {
-        b'0'..=b'9' => b - b'0',
-        b'a'..=b'f' => b - 87,
-        _ => 16,
-    }
-}
-
-fn hold(data: &mut [u8; DATA], n: usize, byte: u8) {
-    if n < DATA {
-        data[n] = byte;
-    }
-}
-
-// The byte that two digits spell.
-fn paired(high: u8, low: u8) -> Pair {
-    if 15 < high {
-        return Pair::Bad;
-    }
-    if 15 < low {
-        return Pair::Bad;
-    }
-    Pair::Byte(high * 16 + low)
-}
-
-// The pair of digits with a number, counted from a place. Past the end of the line stands no digit.
-fn pair_at(line: &[u8], from: usize, i: usize) -> Pair {
-    if MOST < from {
-        return Pair::Bad;
-    }
-    if DATA < i {
-        return Pair::Bad;
-    }
-    let at = from + 2 * i;
-    paired(
-        hex_value(byte_at(line, at)),
-        hex_value(byte_at(line, at + 1)),
-    )
-}
-
-// The bytes that so many pairs spell.
-fn pairs_from(line: &[u8], from: usize, pairs: usize, data: &mut [u8; DATA]) -> Bytes {
-    let mut i: usize = 0;
-    while i < pairs {
-        match pair_at(line, from, i) {
-            Pair::Bad => {
-                return Bytes::Bad;
-            }
-            Pair::Byte(byte) => {
-                hold(data, i, byte);
-                i += 1;
-            }
+// The entry with its numbers, and the field behind them.
+fn entry_of(line: &[u8]) -> Option<(Entry, &[u8])> {
+    let (word, fields) = first_field(line)?;
+    Some(match word {
+        b"line" => (Entry::Line, fields),
+        b"extras" => (Entry::Extras, fields),
+        b"marker" => (Entry::Marker, fields),
+        b"version" => (Entry::Version, fields),
+        b"pattern" => (Entry::Pattern, fields),
+        b"specifier" => (Entry::Specifier, fields),
+        b"normalise" => {
+            let (room, rest) = first_number(fields)?;
+            (Entry::Normalise { room }, rest)
         }
-    }
-    Bytes::Spelled(pairs)
+        b"check" => {
+            let (count, rest) = first_number(fields)?;
+            (Entry::Check { count }, rest)
+        }
+        b"run" => {
+            let (count, rest) = first_number(fields)?;
+            let (assignment, rest) = first_number(rest)?;
+            (Entry::Run { count, assignment }, rest)
+        }
+        _ => return None,
+    })
 }
 
-// The rest of the line: `-`, or pairs of digits. Of an odd number of digits the last one makes a pair that is bad.
-fn bytes_from(line: &[u8], from: usize, data: &mut [u8; DATA]) -> Bytes {
-    if line.len() <= from {
-        return Bytes::Bad;
-    }
-    let rest = line.len() - from;
-    if rest == 1 && line[from] == b'-' {
-        return Bytes::Spelled(0);
-    }
-    pairs_from(line, from, rest / 2 + rest % 2, data)
-}
-
-fn bad() -> Request {
-    Request {
-        entry: Entry::Bad,
-        first: 0,
-        second: 0,
-        len: 0,
+// Capitals are no digits.
+fn hex_value(byte: u8) -> Option<u8>
+    ensures { IfSome result (λ n. n < 16) }
+{
+    match byte {
+        b'0'..=b'9' => Some(byte - b'0'),
+        b'a'..=b'f' => Some(byte - b'a' + 10),
+        _ => None,
     }
 }
 
-// The request that the line is. The bytes that it spells are put into the front of the lent array.
-pub fn read_request(line: &[u8], data: &mut [u8; DATA]) -> Request {
-    let head = head_of(line);
-    let entry = head.entry;
-    let first = number_if(0 < head.numbers, line, head.at);
-    let second = number_if(1 < head.numbers, line, first.after);
-    match bytes_from(line, second.after, data) {
-        Bytes::Spelled(len) => Request {
-            entry,
-            first: first.value,
-            second: second.value,
-            len,
-        },
-        Bytes::Bad => bad(),
+// The bytes that the field spells, `-` for none or two digits for each, in the front of the lent array.
+fn bytes_of<'a>(field: &[u8], data: &'a mut [u8; DATA]) -> Option<&'a [u8]> {
+    if matches!(field, b"-") {
+        return Some(&data[..0]);
     }
+    if field.is_empty() || field.len() % 2 == 1 || 2 * DATA < field.len() {
+        return None;
+    }
+    for (i, pair) in field.chunks_exact(2).enumerate() {
+        data[i] = hex_value(pair[0])? * 16 + hex_value(pair[1])?;
+    }
+    Some(&data[..field.len() / 2])
+}
+
+// The entry that the line asks, and the bytes that it spells, if it is a request. The bytes are put into the front of the lent array.
+pub fn read_request<'a>(line: &[u8], data: &'a mut [u8; DATA]) -> Option<(Entry, &'a [u8])> {
+    let (entry, field) = entry_of(line)?;
+    let text = bytes_of(field, data)?;
+    Some((entry, text))
 }

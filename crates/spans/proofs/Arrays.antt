@@ -80,4 +80,4 @@ gather_turn list spans x i n inv h few told =
 pub gather_end : (list : List ℕ) (spans : List Span) (i n : ℕ) → spans ≡ padded (loaded i list) → i ≤ n → n ≤ i → spans ≡ padded (loaded n list)
 gather_end list spans i n inv l h = let e : n ≡ i = omega arith in rw e inv
 
-pub ruleset arrays = (copied, gather_start, gather_turn, gather_end, rules)
+pub ruleset gathered = (gather_start, gather_turn, gather_end, rules)

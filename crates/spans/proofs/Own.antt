@@ -1,17 +1,11 @@
 -- The contract in document 01's terms leaves one answer. Assumes nothing.
-use mathlib.Core.Path.{◌≡◌, ap}
+use mathlib.Core.Path.{◌≡◌}
 use Prim.Native.Nat.{ℕ}
-use Rattle.refusal.proofs.Numbers.{given_own}
-use Rattle.cursor.specs.Cursor.{cursor}
-use Rattle.refusal.specs.Refusal.{given}
-use Rattle.spans.specs.Listing.{told}
-use Rattle.spans.specs.declared.item.Listed.{Listed}
-use Rattle.spans.specs.declared.item.Listed.TheVariants.{Read, Refused}
+use Rattle.std.specs.Prelude.{Result}
+use Rattle.refusal.specs.declared.fault.Refusal.{Refusal}
+use Rattle.cursor.proofs.Own.{told_at_own}
+use Rattle.cursor.specs.Cursor.{told_at}
+use Rattle.cursor.specs.declared.cursor.Cursor.{Cursor}
 
-pub told_own : (v w : Listed) → told v ≡ told w → v ≡ w
-told_own (Read m x) (Read n y) e =
-    let p : ◌≡◌ {A = ℕ × ℕ} (m, x.at) (n, y.at) = cc in
-    ap (λ (q : ℕ × ℕ). Read q.0 (cursor q.1)) p
-told_own (Read m x) (Refused w) e = unfold given in cc
-told_own (Refused v) (Read n y) e = unfold given in cc
-told_own (Refused v) (Refused w) e = ap Refused (given_own v w e)
+pub told_own : (v w : Result (ℕ × Cursor) Refusal) → told_at v ≡ told_at w → v ≡ w
+told_own = told_at_own

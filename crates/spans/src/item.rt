@@ -1,19 +1,12 @@
-// What a reader of a list meets, and what it answers.
+// What a reader of a list meets.
 use cursor::Cursor;
-use refusal::{Refusal, Span};
+use refusal::Span;
 
-#[derive(Clone, Copy)]
+// A span or the end, and no Option: each has a cursor of its own.
+#[derive(Clone, Copy, Debug, PartialEq, Eq)]
 pub enum Item {
     // A span of the list, and where its next item is read.
     One(Span, Cursor),
     // The list's end, and where reading goes on.
     End(Cursor),
-    Refused(Refusal),
-}
-
-#[derive(Clone, Copy)]
-pub enum Listed {
-    // So many spans, and where reading goes on.
-    Read(usize, Cursor),
-    Refused(Refusal),
 }

@@ -2,7 +2,9 @@
 #![tactic(auto)]
 
 mod item;
+mod listing;
 mod store;
 
-pub use item::{Item, Listed};
+pub use item::Item;
+pub use listing::read_list;
 pub use store::{LIST_NUMBERS, SPAN_NUMBERS, SpanNumbers, copy, gather, put};

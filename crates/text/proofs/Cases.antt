@@ -1,13 +1,12 @@
 -- A definition that goes by tests, `cond t x y`, against code that made the tests: each law takes one `cond` off the goal, and `search cases`
 -- goes through them all. The code's value `r` need not be the definition's: `r ≡ t`, found by search, says that it is the same. Assumes nothing.
-use mathlib.Core.Path.{◌≡◌, refl, sym, ◌∙◌}
+use mathlib.Core.Path.{◌≡◌, refl}
 use mathlib.Core.Bool.{Bool, true, false, cond, ◌&&◌, false≢true}
-use Prim.Native.Nat.{ℕ, ◌+◌, ◌≤◌, ◌<◌}
-use native.Mathlib.Omega.{arith}
+use Prim.Native.Nat.{ℕ, ◌≤◌, ◌<◌}
 use borrow.Author.Rules.{rules}
 use borrow.Author.Tests.{lt-ltb, le-ltb, eq-eqb, ne_eqb, leb-true, ltb-true, ltb-false}
 use lib.Dec.{ltb, leb, eqb}
-use Rattle.text.specs.Class.{within, is_capital}
+use Rattle.text.specs.Class.{within}
 
 -- a test that a call made
 module _ {A : Type 0} (z x y : A) (r t : Bool) (told : r ≡ t) where
@@ -50,7 +49,3 @@ pub within_true : (lo hi b : ℕ) → within lo hi b ≡ true → (lo ≤ b) × 
 within_true lo hi b h =
     let p = both (leb lo b) (leb b hi) h in
     (leb-true lo b p.0, leb-true b hi p.1)
-
--- so a capital's small letter is a byte
-pub capital_fits : (r : Bool) (b : ℕ) → r ≡ is_capital b → r ≡ true → b + 32 < 256
-capital_fits r b told h = omega (arith, within_true 65 90 b (sym told ∙ h))

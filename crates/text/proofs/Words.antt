@@ -1,37 +1,38 @@
 -- The laws of `begins_by`, `begins` and `spells`. Assumes nothing.
 use mathlib.Core.Path.{◌≡◌, refl, sym, ap, ap₂, ◌∙◌}
-use mathlib.Core.Bool.{Bool, true, false, not, ◌&&◌, false≢true}
+use mathlib.Core.Bool.{Bool, true, false, ◌&&◌, and-false, false≢true}
 use mathlib.Core.List.{List, [], ◌∷◌, ◌++◌, nil≢cons, head-eq_of_cons-eq, tail-eq_of_cons-eq}
-use Prim.Native.Nat.{ℕ, ◌+◌, ◌≤◌, ◌<◌, zero-le, suc-le-suc}
-use native.Mathlib.Numerals.{add-one}
+use Prim.Native.Nat.{ℕ, ◌-◌, ◌≤◌, ◌<◌, min, zero-le, suc-le-suc}
 use native.Mathlib.Omega.{arith}
-use borrow.Author.Tests.{not-true, not-false, eqb-true, eq-eqb, ne_eqb}
+use borrow.Author.Tests.{eqb-true, eq-eqb, ne_eqb}
 use lib.Dec.{eqb}
-use lib.ListN.{length, take, drop, get_or, drop_of_length-le}
-use lib.Seq.{drop-cons}
+use lib.ListN.{length, take, drop, length-drop}
+use lib.Seq.{take_all}
+use Rattle.std.proofs.lemmas.List.{drop_min}
+use Rattle.std.specs.List.{list_all, zip}
 use Rattle.text.proofs.Cases.{both}
 use Rattle.text.proofs.Laws.{runs}
 use Rattle.text.specs.Word.{begins_by, begins, spells}
 use Rattle.refusal.specs.declared.place.Span.{Span}
 
--- the loop that compares: `e` is the answer, which a turn keeps; `r` is the test that the code made
-module _ (alike : ℕ → ℕ → Bool) (w s : List ℕ) (i at : ℕ) (e : Bool) (inv : begins_by alike (drop i w) (drop at s) ≡ e) where
-  pub word_end : length w ≤ i → true ≡ e
+-- pairs that are all alike, of a word and as much of a text
+module _ (alike : ℕ → ℕ → Bool) where
+  pub pairs_begin : (w s : List ℕ) → length w ≤ length s → list_all (λ x. alike x.0 x.1) (zip s w) ≡ begins_by alike w s
   unfolding begins_by
-  word_end h = sym (rw (drop_of_length-le w h)) ∙ inv
+  pairs_begin [] [] h = refl
+  pairs_begin [] (b ∷ s) h = refl
+  pairs_begin (a ∷ w) [] h = absurd (omega arith)
+  pairs_begin (a ∷ w) (b ∷ s) h = ap (λ (r : Bool). alike b a && r) (pairs_begin w s (omega arith))
 
-  pub word_short : i < length w → length s ≤ at → false ≡ e
+  pub short_begins : (w s : List ℕ) → length s < length w → false ≡ begins_by alike w s
   unfolding begins_by
-  word_short h l = rw (drop-cons w i 0 h, drop_of_length-le s l) at inv
+  short_begins [] s h = absurd (omega arith)
+  short_begins (a ∷ w) [] h = refl
+  short_begins (a ∷ w) (b ∷ s) h = rw (← short_begins w s (omega arith)) (sym (and-false (alike b a)))
 
-  module _ (h : i < length w) (l : at < length s) (r : Bool) (told : r ≡ alike (get_or s at 0) (get_or w i 0)) where
-    pub word_differs : not r ≡ true → false ≡ e
-    unfolding begins_by
-    word_differs t = rw (drop-cons w i 0 h, drop-cons s at 0 l, ← told, not-true r t) at inv
-
-    pub word_turn : not r ≡ false → begins_by alike (drop (i + 1) w) (drop (at + 1) s) ≡ e
-    unfolding begins_by
-    word_turn t = rw (add-one, add-one) (rw (drop-cons w i 0 h, drop-cons s at 0 l, ← told, not-false r t) at inv)
+-- what is left of a text from a place: nothing past the end
+pub rest_is : (s : List ℕ) (at from : ℕ) → from ≡ min at (length s) → take (length s - from) (drop from s) ≡ drop at s
+rest_is s at from here = take_all (length s - from) (drop from s) (omega (arith, length-drop from s)) ∙ ap (λ (k : ℕ). drop k s) here ∙ drop_min at s
 
 -- a word of another length is not the span's
 module _ (m n : ℕ) (t : Bool) where
@@ -41,7 +42,7 @@ module _ (m n : ℕ) (t : Bool) where
   pub length_other : (m ≡ n → ⊥) → false ≡ (eqb m n && t)
   length_other e = rw (ne_eqb m n e)
 
-pub ruleset spelling = (length_same, length_other, word_end, word_short, word_differs, word_turn, runs)
+pub ruleset spelling = (length_same, length_other, runs)
 
 -- a text begins with a word exactly if its first bytes are the word
 pub begins_word : (w s : List ℕ) → begins w s ≡ true → take (length w) s ≡ w

@@ -11,4 +11,4 @@ pub use class::{
     is_space, is_token_byte, is_word_byte, small_of,
 };
 pub use place::{byte_at, has, separator_at, separator_before};
-pub use word::{spelled, word_at};
+pub use word::{spelled, word_at, word_like};

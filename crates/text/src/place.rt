@@ -8,7 +8,7 @@ use crate::class::is_separator;
 pub fn byte_at(line: &[u8], at: usize) -> u8
     ensures { result ≡ byte_at line.now at }
 {
-    if at < line.len() { line[at] } else { 0 }
+    line.get(at).copied().unwrap_or(0)
 }
 
 // Whether a byte, not 0, stands at a place.
@@ -24,16 +24,9 @@ pub fn separator_at(line: &[u8], at: usize) -> bool
     is_separator(byte_at(line, at))
 }
 
-// The place before, and 0 before 0.
-fn before(at: usize) -> usize
-    ensures { result ≡ at - 1 }
-{
-    if 0 < at { at - 1 } else { 0 }
-}
-
 // Whether a separator stands just before a place: what a name that ends there ends in.
 pub fn separator_before(line: &[u8], at: usize) -> bool
     ensures { result ≡ is_separator (byte_at line.now (at - 1)) }
 {
-    separator_at(line, before(at))
+    separator_at(line, at.saturating_sub(1))
 }

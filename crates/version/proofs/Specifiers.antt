@@ -1,11 +1,12 @@
 -- The laws of specifiers. Assumes nothing.
 use mathlib.Core.Path.{◌≡◌}
-use mathlib.Core.Bool.{Bool, false}
+use mathlib.Core.Bool.{Bool}
 use mathlib.Core.List.{List}
 use Prim.Native.Nat.{ℕ, ◌-◌, ◌≤◌}
 use native.Mathlib.Omega.{arith}
 use lib.ListN.{length, take, drop, length-drop}
 use lib.Seq.{take_all}
+use Rattle.std.specs.Prelude.{Option}
 use Rattle.text.proofs.Reach.{skip_within}
 use Rattle.text.specs.Class.{is_space, is_operator_byte}
 use Rattle.refusal.specs.Refusal.{span, told}
@@ -13,14 +14,12 @@ use Rattle.text.specs.Scan.{skip}
 use Rattle.refusal.specs.declared.place.Span.{Span}
 use Rattle.version_operator.specs.Operator.{operator_in}
 use Rattle.version.proofs.Layouts.{laid}
-use Rattle.version.specs.Rules.{goes_with, suits_token, is_specifier}
+use Rattle.version.specs.Rules.{suits_token, is_specifier}
 use Rattle.version_operator.specs.declared.operator.Operator.{Operator}
-use Rattle.version_operator.specs.declared.operator.Token.{Token}
-use Rattle.version_operator.specs.declared.operator.Token.TheVariants.{Known, Unknown}
 
 -- a specifier, from where the code found its operator
 module _ (s : List ℕ) (start from to : ℕ) (first : start ≡ 0) (spaces : from ≡ skip is_space s start) (operator : to ≡ skip is_operator_byte s from) where
-  pub specifier_is : (at : Span) (token : Token) (r : Bool) → at ≡ span from (to - from) → token ≡ operator_in s at → r ≡ suits_token token (take (length s - to) (drop to s)) → r ≡ is_specifier s
+  pub specifier_is : (at : Span) (token : Option Operator) (r : Bool) → at ≡ span from (to - from) → token ≡ operator_in s at → r ≡ suits_token token (take (length s - to) (drop to s)) → r ≡ is_specifier s
   unfolding is_specifier
   specifier_is at token r place told suited =
       let rest : take (length s - to) (drop to s) ≡ drop to s = take_all (length s - to) (drop to s) (omega (arith, length-drop to s)) in
@@ -32,12 +31,4 @@ module _ (s : List ℕ) (start from to : ℕ) (first : start ≡ 0) (spaces : fr
       let l : from ≤ length s = rw spaces (skip_within is_space s start (omega arith)) in
       rw operator (skip_within is_operator_byte s from l)
 
--- what an operator token allows, by the case that the code met
-module _ (token : Token) (s : List ℕ) where
-  pub token_known : (op : Operator) (r : Bool) → token ≡ Known op → r ≡ goes_with op s → r ≡ suits_token token s
-  token_known op r e told = rw e told
-
-  pub token_unknown : token ≡ Unknown → false ≡ suits_token token s
-  token_unknown e = rw e
-
-pub ruleset asked = (specifier_is, operator_within, token_known, token_unknown, laid)
+pub ruleset asked = (specifier_is, operator_within, laid)

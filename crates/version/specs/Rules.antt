@@ -1,12 +1,10 @@
 -- What may be asked of a text: is it a version, a pattern, a specifier, does it go with an operator, is it a list of versions.
-use Rattle.std.specs.Prelude.{ℕ, ◌-◌, Bool, true, false, not, ◌&&◌, ◌||◌, List, [], ◌∷◌, drop}
+use Rattle.std.specs.Prelude.{ℕ, ◌-◌, Bool, true, false, not, ◌&&◌, ◌||◌, List, [], ◌∷◌, Option, Some, None, drop}
 use Rattle.text.specs.Class.{is_space, is_operator_byte}
 use Rattle.refusal.specs.Refusal.{span}
 use Rattle.text.specs.Scan.{skip}
 use Rattle.version_operator.specs.Operator.{operator_in, takes}
 use Rattle.version_operator.specs.declared.operator.Operator.{Operator}
-use Rattle.version_operator.specs.declared.operator.Token.{Token}
-use Rattle.version_operator.specs.declared.operator.Token.TheVariants.{Known, Unknown}
 use Rattle.version.specs.Layout.{layout, is_version_at, is_starred_at, has_two, has_local}
 use Rattle.version.specs.Reading.{pieces}
 use Rattle.version.specs.declared.layout.Layout.{Layout}
@@ -28,9 +26,9 @@ unfoldable pub goes_with : Operator → List ℕ → Bool
 goes_with op s = is_version_at (layout s) s && suits op (layout s) || is_starred_at (layout s) s && (takes op).star
 
 -- what stands behind an operator may go with it, and nothing goes without one
-abbrev pub suits_token : Token → List ℕ → Bool
-suits_token (Known op) s = goes_with op s
-suits_token Unknown s = false
+abbrev pub suits_token : Option Operator → List ℕ → Bool
+suits_token (Some op) s = goes_with op s
+suits_token None s = false
 
 -- "A text is whitespace, operator, whitespace, version or pattern, whitespace. An empty text is 14."
 unfoldable pub is_specifier : List ℕ → Bool

@@ -1,7 +1,5 @@
 // Where the parts of a version stand, found in one pass.
 ghost use Rattle.std.specs.Prelude.{◌≡◌};
-ghost use Rattle.text.specs.Class.{is_space};
-ghost use Rattle.text.specs.Scan.{skip};
 ghost use Rattle.version.specs.Layout.{layout};
 
 use cursor::Cursor;
@@ -9,7 +7,7 @@ use version_number::number_end;
 use version_parts::{dev_end, epoch_end, local_end, post_end, pre_end, release_end, v_end};
 
 // The place behind each part, in the order of the parts; a part that is not there ends where the one before it does.
-#[derive(Clone, Copy)]
+#[derive(Clone, Copy, Debug, PartialEq, Eq)]
 pub struct Layout {
     // White space and `v`.
     pub start: usize,
@@ -23,16 +21,11 @@ pub struct Layout {
     pub local: usize,
 }
 
-fn spaces_end(text: &[u8]) -> usize
-    ensures { result ≡ skip is_space text.now 0 }
-{
-    Cursor { at: 0 }.skip_whitespace(text).at
-}
-
+#[tactic(auto, using(crate::proofs::Specifiers::asked))]
 pub fn read_layout(text: &[u8]) -> Layout
     ensures { result ≡ layout text.now }
 {
-    let start = v_end(text, spaces_end(text));
+    let start = v_end(text, Cursor::start().skip_whitespace(text).at);
     let epoch = epoch_end(text, start);
     let first = number_end(text, epoch);
     let release = release_end(text, first);

@@ -1,2 +1,2 @@
--- The law by which the entries are proved.
+-- The rules by which the entries are proved.
 pub mod Entries

@@ -34,11 +34,10 @@ use Rattle.version_number.specs.Number.{number_len}
 use Rattle.version_operator.specs.Operator.{spelling, operators, operator_among, operator_in, takes}
 use Rattle.version_operator.specs.declared.operator.Operator.{Operator}
 use Rattle.version_operator.specs.declared.operator.Operator.TheVariants.{LessEqual, Less, NotEqual, Equal, GreaterEqual, Greater, Compatible, Exact}
-use Rattle.version_operator.specs.declared.operator.Token.{Token}
-use Rattle.version_operator.specs.declared.operator.Token.TheVariants.{Known, Unknown}
 use Rattle.version_parts.specs.Joined.{more}
 use Rattle.version_parts.specs.Release.{is_dot}
 use Rattle.version.specs.Layout.{layout, has_release, has_two, has_local, ends_at, is_version_at, is_starred_at}
+use Rattle.std.specs.Prelude.{Option, Some, None}
 use Rattle.version.specs.Rules.{is_version, suits, goes_with, suits_token, is_specifier}
 
 -- "A text is whitespace, operator, whitespace, version or pattern, whitespace."
@@ -188,7 +187,7 @@ module _ (op : Operator) (b v c : List ℕ) (before : all is_space b ≡ true) (
           star_still old star
 
 -- An operator is read where it is spelled
-known : (op : Operator) (s w : List ℕ) (from : ℕ) → drop from s ≡ bytes (spelling op) ++ w → operator_in s (span from (length (bytes (spelling op)))) ≡ Known op
+known : (op : Operator) (s w : List ℕ) (from : ℕ) → drop from s ≡ bytes (spelling op) ++ w → operator_in s (span from (length (bytes (spelling op)))) ≡ Some op
 unfolding operator_among begins_by
 known LessEqual s w from e = rw e
 known Less s w from e = rw e
@@ -200,12 +199,12 @@ known Compatible s w from e = rw e
 known Exact s w from e = rw e
 
 -- and spelled where it is read
-spelled : (ops : List Operator) (s : List ℕ) (at : Span) (op : Operator) → operator_among ops s at ≡ Known op → spells (bytes (spelling op)) s at ≡ true
+spelled : (ops : List Operator) (s : List ℕ) (at : Span) (op : Operator) → operator_among ops s at ≡ Some op → spells (bytes (spelling op)) s at ≡ true
 unfolding operator_among
 spelled [] s at op h = absurd (true≢false (cc))
 spelled (o ∷ ops) s at op h = go (spells (bytes (spelling o)) s at) refl h (spelled ops s at op)
   where
-    go : (t : Bool) → spells (bytes (spelling o)) s at ≡ t → cond t (Known o) (operator_among ops s at) ≡ Known op → (operator_among ops s at ≡ Known op → spells (bytes (spelling op)) s at ≡ true) → spells (bytes (spelling op)) s at ≡ true
+    go : (t : Bool) → spells (bytes (spelling o)) s at ≡ t → cond t (Some o) (operator_among ops s at) ≡ Some op → (operator_among ops s at ≡ Some op → spells (bytes (spelling op)) s at ≡ true) → spells (bytes (spelling op)) s at ≡ true
     go true e h again = let same : o ≡ op = cc in rw same at e
     go false e h again = again h
 
@@ -231,7 +230,7 @@ operator_starts Compatible w = refl
 operator_starts Exact w = refl
 
 -- a specifier, from the places of its pieces
-specifier_at : (s : List ℕ) (from to n : ℕ) (op : Operator) → skip is_space s 0 ≡ from → skip is_operator_byte s from ≡ to → to - from ≡ n → operator_in s (span from n) ≡ Known op → goes_with op (drop to s) ≡ true → is_specifier s ≡ true
+specifier_at : (s : List ℕ) (from to n : ℕ) (op : Operator) → skip is_space s 0 ≡ from → skip is_operator_byte s from ≡ to → to - from ≡ n → operator_in s (span from n) ≡ Some op → goes_with op (drop to s) ≡ true → is_specifier s ≡ true
 unfolding is_specifier
 specifier_at s from to n op first next size token goes = rw (first, next, size, token) goes
 
@@ -267,16 +266,16 @@ specifier_cut s h = go (operator_in s (span from (to - from))) refl h
     to : ℕ
     to = skip is_operator_byte s from
 
-    cut : (op : Operator) → operator_in s (span from (to - from)) ≡ Known op → s ≡ take from s ++ (bytes (spelling op) ++ (drop to s ++ []))
+    cut : (op : Operator) → operator_in s (span from (to - from)) ≡ Some op → s ≡ take from s ++ (bytes (spelling op) ++ (drop to s ++ []))
     cut op e =
         let this : take (to - from) (drop from s) ≡ bytes (spelling op) = spells_bytes (bytes (spelling op)) s (span from (to - from)) (spelled operators s (span from (to - from)) op e) in
         let place : from + (to - from) ≡ to = omega (arith, skip_from is_operator_byte s from) in
         let behind : drop (to - from) (drop from s) ≡ drop to s = drop-drop (to - from) from s ∙ ap (λ (n : ℕ). drop n s) place in
         rw (append-nil (drop to s), ← this, ← behind, take-append-drop (to - from) (drop from s), take-append-drop from s)
 
-    go : (t : Token) → operator_in s (span from (to - from)) ≡ t → suits_token t (drop to s) ≡ true → Specifier s
-    go Unknown e h = absurd (false≢true h)
-    go (Known op) e h = record {
+    go : (t : Option Operator) → operator_in s (span from (to - from)) ≡ t → suits_token t (drop to s) ≡ true → Specifier s
+    go None e h = absurd (false≢true h)
+    go (Some op) e h = record {
       op = op;
       before = take from s;
       between = [];

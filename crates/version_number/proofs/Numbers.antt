@@ -2,16 +2,15 @@
 use mathlib.Core.Path.{◌≡◌, refl, sym, ◌∙◌}
 use mathlib.Core.Bool.{Bool, true, false, cond}
 use mathlib.Core.List.{List, [], ◌∷◌}
-use Prim.Native.Nat.{ℕ, ◌+◌, ◌-◌, ◌*◌, ◌/◌, ◌≤◌, ◌<◌}
+use Prim.Native.Nat.{ℕ, ◌+◌, ◌*◌, ◌≤◌, ◌<◌}
 use native.Mathlib.Numerals.{add-one}
 use native.Mathlib.Omega.{arith}
-use borrow.Author.Tests.{le-leb, lt-leb, ltb-true, ltb-false, lt-ltb, le-ltb}
+use borrow.Author.Tests.{le-leb, lt-leb, ltb-true, ltb-false}
 use lib.Dec.{ltb}
 use lib.ListN.{length, drop, get_or, drop_of_length-le}
 use lib.Seq.{drop-cons}
 use mir.Syntax.{w64}
 use mir.Val.{Fits}
-use Rattle.text.proofs.Cases.{by_order}
 use Rattle.cursor.proofs.Laws.{scan}
 use Rattle.text.proofs.Laws.{skip_stop, skip_end, skip_on}
 use Rattle.text.specs.Class.{is_digit}
@@ -83,16 +82,5 @@ module _ (s : List ℕ) (at v end : ℕ) (inv : Counted s at v end) where
   pub number_ended : length s ≤ end → end ≡ past number_len s at
   unfolding value_from
   number_ended l = number_done (rw (drop_of_length-le s l)) (skip_end is_digit s end l)
-
--- whether one digit more is too much: no more than what the largest number leaves for the digits before it
-pub over_is : (v d : ℕ) → d ≤ largest → ltb ((largest - d) / 10) v ≡ ltb largest (10 * v + d)
-over_is v d room =
-    by_order ((largest - d) / 10) v
-    (λ more. rw (lt-ltb ((largest - d) / 10) v more) (sym (lt-ltb largest (10 * v + d) (omega arith))))
-    (λ few. rw (le-ltb ((largest - d) / 10) v few) (sym (le-ltb largest (10 * v + d) (omega arith))))
-
--- nor where there is a tenth left for it
-pub over_not : (v d : ℕ) → v < largest / 10 → d < 10 → false ≡ ltb largest (10 * v + d)
-over_not v d few digit = sym (le-ltb largest (10 * v + d) (omega arith))
 
 pub ruleset number = (tenfold_fits, digit_fits, counted_start, number_over, number_turn, number_stopped, number_ended, scan)

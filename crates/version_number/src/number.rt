@@ -6,7 +6,7 @@ ghost use Rattle.version_number.specs.Place.{past};
 use text::is_digit;
 
 // Each number is at most this, so that it fits 64 bits.
-pub const LARGEST: u64 = 18_446_744_073_709_551_615;
+pub const LARGEST: u64 = u64::MAX;
 
 // Whether one digit more makes a number too large: 10 * value + digit would not fit.
 pub fn overflows(value: u64, digit: u64) -> bool
@@ -23,25 +23,24 @@ pub fn overflows(value: u64, digit: u64) -> bool
 pub fn digit_value(b: u8) -> u64
     ensures { result ≡ digit_value b }
 {
-    if b < b'0' {
-        return 0;
-    }
-    (b - b'0') as u64
+    u64::from(b.saturating_sub(b'0'))
 }
 
 // The place behind the number that stands at a place: the same place if none does, or one that is too large.
+#[tactic(auto, using(crate::proofs::Numbers::number))]
 pub fn number_end(text: &[u8], at: usize) -> usize
     ensures { result ≡ past number_len text.now at }
 {
     let mut value: u64 = 0;
-    let mut end = at;
-    while end < text.len() && is_digit(text[end]) {
+    for end in at..text.len() {
+        if !is_digit(text[end]) {
+            return end;
+        }
         let digit = digit_value(text[end]);
         if overflows(value, digit) {
             return at;
         }
         value = 10 * value + digit;
-        end += 1;
     }
-    end
+    at.max(text.len())
 }

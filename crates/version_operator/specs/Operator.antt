@@ -1,13 +1,11 @@
 -- The operators of a specifier.
-use Rattle.std.specs.Prelude.{ℕ, true, false, cond, List, [], ◌∷◌}
+use Rattle.std.specs.Prelude.{ℕ, true, false, cond, List, [], ◌∷◌, Option, Some, None}
 use Prim.Native.String.{String}
 use Rattle.text.specs.Word.{bytes, spells}
 use Rattle.refusal.specs.declared.place.Span.{Span}
 use Rattle.version_operator.specs.declared.operator.Operator.{Operator}
 use Rattle.version_operator.specs.declared.operator.Operator.TheVariants.{LessEqual, Less, NotEqual, Equal, GreaterEqual, Greater, Compatible, Exact}
 use Rattle.version_operator.specs.declared.operator.Takes.{Takes}
-use Rattle.version_operator.specs.declared.operator.Token.{Token}
-use Rattle.version_operator.specs.declared.operator.Token.TheVariants.{Known, Unknown}
 
 -- "Operators are `<= < != == >= > ~= ===`."
 abbrev pub spelling : Operator → String
@@ -25,12 +23,12 @@ abbrev pub operators : List Operator
 operators = LessEqual ∷ Less ∷ NotEqual ∷ Equal ∷ GreaterEqual ∷ Greater ∷ Compatible ∷ Exact ∷ []
 
 -- which of some operators a part of a text spells
-unfoldable pub operator_among : List Operator → List ℕ → Span → Token
-operator_among [] s at = Unknown
-operator_among (op ∷ ops) s at = cond (spells (bytes (spelling op)) s at) (Known op) (operator_among ops s at)
+unfoldable pub operator_among : List Operator → List ℕ → Span → Option Operator
+operator_among [] s at = None
+operator_among (op ∷ ops) s at = cond (spells (bytes (spelling op)) s at) (Some op) (operator_among ops s at)
 
 -- the operator that a part of a text spells, if it spells one
-abbrev pub operator_in : List ℕ → Span → Token
+abbrev pub operator_in : List ℕ → Span → Option Operator
 operator_in s at = operator_among operators s at
 
 -- "`.*` goes only with `==` and `!=`. `~=` needs two release numbers. A local part goes only with `==`, `!=`, `===`."

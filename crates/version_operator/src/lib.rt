@@ -3,4 +3,4 @@
 
 mod operator;
 
-pub use operator::{Operator, Takes, Token, operator_in, takes_of};
+pub use operator::{Operator, Takes, operator_in, takes_of};

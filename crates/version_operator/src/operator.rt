@@ -1,12 +1,13 @@
 // The operators of a specifier, and what may go with each.
-ghost use Rattle.std.specs.Prelude.{◌≡◌, drop};
-ghost use Rattle.version_operator.specs.Operator.{operators, operator_among, operator_in, takes};
+ghost use Rattle.std.specs.Prelude.{◌≡◌};
+ghost use Rattle.text.specs.Word.{bytes};
+ghost use Rattle.version_operator.specs.Operator.{spelling, operator_in, takes};
 
 use refusal::Span;
 use text::spelled;
 
 // In document 01's order.
-#[derive(Clone, Copy)]
+#[derive(Clone, Copy, Debug, PartialEq, Eq)]
 pub enum Operator {
     LessEqual,
     Less,
@@ -18,74 +19,58 @@ pub enum Operator {
     Exact,
 }
 
-#[derive(Clone, Copy)]
-pub enum Token {
-    Known(Operator),
-    Unknown,
-}
-
 // Whether an operator takes `.*`, takes a local part, and needs two release numbers.
-#[derive(Clone, Copy)]
+#[derive(Clone, Copy, Debug, PartialEq, Eq)]
 pub struct Takes {
     pub star: bool,
     pub local: bool,
     pub two: bool,
 }
 
-// The eight in two steps, which keeps each proof short.
-fn later_operator_in(text: &[u8], span: Span) -> Token
-    ensures { result ≡ operator_among (drop 4 operators) text.now span }
-{
-    if spelled(text, span, b">=") {
-        return Token::Known(Operator::GreaterEqual);
+impl Operator {
+    const ALL: [Operator; 8] = [
+        Operator::LessEqual,
+        Operator::Less,
+        Operator::NotEqual,
+        Operator::Equal,
+        Operator::GreaterEqual,
+        Operator::Greater,
+        Operator::Compatible,
+        Operator::Exact,
+    ];
+
+    fn spelling(self) -> &'static [u8]
+        ensures { result.now ≡ bytes (spelling self) }
+    {
+        match self {
+            Operator::LessEqual => b"<=",
+            Operator::Less => b"<",
+            Operator::NotEqual => b"!=",
+            Operator::Equal => b"==",
+            Operator::GreaterEqual => b">=",
+            Operator::Greater => b">",
+            Operator::Compatible => b"~=",
+            Operator::Exact => b"===",
+        }
     }
-    if spelled(text, span, b">") {
-        return Token::Known(Operator::Greater);
-    }
-    if spelled(text, span, b"~=") {
-        return Token::Known(Operator::Compatible);
-    }
-    if spelled(text, span, b"===") {
-        return Token::Known(Operator::Exact);
-    }
-    Token::Unknown
 }
 
-pub fn operator_in(text: &[u8], span: Span) -> Token
+// The operator that a part of a text spells, if it spells one.
+pub fn operator_in(text: &[u8], span: Span) -> Option<Operator>
     ensures { result ≡ operator_in text.now span }
 {
-    if spelled(text, span, b"<=") {
-        return Token::Known(Operator::LessEqual);
-    }
-    if spelled(text, span, b"<") {
-        return Token::Known(Operator::Less);
-    }
-    if spelled(text, span, b"!=") {
-        return Token::Known(Operator::NotEqual);
-    }
-    if spelled(text, span, b"==") {
-        return Token::Known(Operator::Equal);
-    }
-    later_operator_in(text, span)
-}
-
-fn taken(star: bool, local: bool, two: bool) -> Takes
-    ensures { result ≡ record { star = star; local = local; two = two } }
-{
-    Takes { star, local, two }
+    Operator::ALL
+        .iter()
+        .copied()
+        .find(|op| spelled(text, span, op.spelling()))
 }
 
 pub fn takes_of(op: Operator) -> Takes
     ensures { result ≡ takes op }
 {
-    match op {
-        Operator::LessEqual => taken(false, false, false),
-        Operator::Less => taken(false, false, false),
-        Operator::NotEqual => taken(true, true, false),
-        Operator::Equal => taken(true, true, false),
-        Operator::GreaterEqual => taken(false, false, false),
-        Operator::Greater => taken(false, false, false),
-        Operator::Compatible => taken(false, false, true),
-        Operator::Exact => taken(false, true, false),
+    Takes {
+        star: matches!(op, Operator::NotEqual | Operator::Equal),
+        local: matches!(op, Operator::NotEqual | Operator::Equal | Operator::Exact),
+        two: matches!(op, Operator::Compatible),
     }
 }

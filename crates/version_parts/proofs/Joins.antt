@@ -2,15 +2,13 @@
 use mathlib.Core.Path.{◌≡◌, refl, sym, ap, ◌∙◌}
 use mathlib.Core.Bool.{Bool, true, false, cond, ◌&&◌, false≢true, and-false}
 use mathlib.Core.List.{List, [], ◌∷◌}
-use Prim.Native.Nat.{ℕ, zero, suc, ◌+◌, ◌-◌, ◌≤◌, ◌<◌}
+use Prim.Native.Nat.{ℕ, zero, suc, ◌+◌, ◌≤◌, ◌<◌}
 use native.Mathlib.Nat.{add_assoc}
 use native.Mathlib.Omega.{arith}
 use borrow.Author.Tests.{lt-ltb}
-use lib.Dec.{ltb, eqb}
+use lib.Dec.{ltb}
 use lib.ListN.{length, drop, length-drop}
 use lib.Seq.{drop-drop}
-use Rattle.text.proofs.Places.{byte_lt}
-use Rattle.text.specs.Class.{is_separator}
 use Rattle.text.specs.Scan.{byte_at}
 use Rattle.version_parts.proofs.Parts.{part, byte_drop}
 use Rattle.version_parts.specs.Joined.{more_len, more}
@@ -74,12 +72,4 @@ module _ (joins : ℕ → Bool) (item : List ℕ → ℕ) (none : joins 0 ≡ fa
     pub more_stop : r ≡ false → at ≡ e
     more_stop h = let off = more_off (drop at s) (rw (joined, h)) in omega (arith, off, inv)
 
--- what is left of the text falls
-module _ (s : List ℕ) (at next : ℕ) (r : Bool) (hit : r ≡ true) (l : at + 1 < next) where
-  pub has_less : (b : ℕ) → r ≡ eqb (byte_at s at) b → eqb 0 b ≡ false → length s - next < length s - at
-  has_less b test none = omega (arith, byte_lt s at (λ (x : ℕ). eqb x b) none (sym test ∙ hit))
-
-  pub separator_less : r ≡ is_separator (byte_at s at) → length s - next < length s - at
-  separator_less test = omega (arith, byte_lt s at is_separator refl (sym test ∙ hit))
-
-pub ruleset joint = (more_turn, more_short, more_stop, has_less, separator_less, part)
+pub ruleset joint = (more_turn, more_short, more_stop, part)

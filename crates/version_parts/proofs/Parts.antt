@@ -1,46 +1,32 @@
 -- The laws of words, separators and counted parts. Assumes nothing.
 use mathlib.Core.Path.{◌≡◌, refl, sym, ap, ◌∙◌}
-use mathlib.Core.Bool.{Bool, true, false, cond, not, ◌&&◌, ◌||◌, false≢true, true≢false}
-use mathlib.Core.List.{List, [], ◌∷◌}
+use mathlib.Core.Bool.{Bool, true, false, cond, not, ◌||◌, false≢true, true≢false}
+use mathlib.Core.List.{List, [], ◌∷◌, map}
 use Prim.Native.Nat.{ℕ, ◌+◌, ◌^◌, ◌≤◌, ◌<◌}
 use native.Mathlib.Nat.{add_assoc, add-zero}
 use native.Mathlib.Omega.{arith}
-use borrow.Author.Tests.{lt-ltb, le-ltb, not-true, ne_eqb, ltb-true}
-use lib.Dec.{ltb, eqb}
-use lib.ListN.{length, drop, length-drop}
-use lib.Seq.{drop-drop, get_or-drop}
+use borrow.Author.Tests.{lt-ltb, le-ltb, not-true, ne_eqb}
+use lib.Dec.{eqb}
+use lib.ListN.{length, get_or, drop, length-drop, drop_of_length-le}
+use lib.Seq.{drop-cons, drop-drop, get_or-drop}
+use native.Mathlib.Numerals.{add-one}
+use Rattle.std.proofs.Common.{Bor}
 use mir.Syntax.{w64}
 use mir.Val.{Fits}
 use Rattle.text.proofs.Cases.{both}
 use Rattle.text.proofs.Places.{places}
 use Rattle.cursor.proofs.Laws.{word}
 use Rattle.text.proofs.Words.{begins_fits}
-use Rattle.text.specs.Class.{is_letter, is_capital, is_separator, within}
+use Rattle.text.specs.Class.{is_letter, is_capital, within}
 use Rattle.text.specs.Scan.{byte_at}
 use Rattle.text.specs.Word.{begins_by}
 use Rattle.version_number.specs.Place.{past}
 use Rattle.version_number.specs.Number.{number_len}
-use Rattle.version_parts.specs.Part.{says, is_letter_of, word_len, sep_len, count_len, part_len, post_len, post_words}
-
--- a part behind a part
-pub past_past : (f g : List ℕ → ℕ) (s : List ℕ) (at : ℕ) → past g s (past f s at) ≡ at + (f (drop at s) + g (drop (f (drop at s)) (drop at s)))
-past_past f g s at = rw (drop-drop (f (drop at s)) at s) (add_assoc at (f (drop at s)) _)
+use Rattle.version_parts.specs.Part.{says, is_letter_of, lettered, all_lettered, word_len, sep_len, count_len, part_len, post_len, post_words}
 
 module _ (s : List ℕ) (at : ℕ) where
   pub byte_drop : byte_at (drop at s) 0 ≡ byte_at s at
   byte_drop = get_or-drop at s 0 0 ∙ ap (byte_at s) (add-zero at)
-
-  -- the separator that may stand there
-  module _ (r : Bool) (test : r ≡ is_separator (byte_at s at)) where
-    pub separator_there : r ≡ true → at + 1 ≡ past sep_len s at
-    separator_there h = rw (byte_drop, ← test, h)
-
-    pub separator_none : r ≡ false → at ≡ past sep_len s at
-    separator_none h = rw (byte_drop, ← test, h) (omega arith)
-
-  -- and the number behind it
-  pub count_there : (k e : ℕ) → k ≡ past sep_len s at → e ≡ past number_len s k → e ≡ past count_len s at
-  count_there k e sep num = rw (num, sep) (past_past sep_len number_len s at)
 
   -- one of the words, from the tests in their order
   module _ (w : List ℕ) (words : List (List ℕ)) (r : Bool) (test : r ≡ says w (drop at s)) where
@@ -52,10 +38,8 @@ module _ (s : List ℕ) (at : ℕ) where
     unfolding word_len
     word_next e h later = rw (← test, h) later
 
-  pub word_fits : (w : List ℕ) (r : Bool) (n : ℕ) → length s < 2 ^ 64 → r ≡ says w (drop at s) → r ≡ true → length w ≡ n → ltb 0 n ≡ true → Fits w64 (at + n)
-  word_fits w r n room test h e some = record {
-    fits = omega (arith, begins_fits is_letter_of w (drop at s) (sym test ∙ h), length-drop at s, ltb-true 0 n some);
-  }
+  pub word_fits : (w : List ℕ) (r : Bool) → length s < 2 ^ 64 → at < 2 ^ 64 → r ≡ says w (drop at s) → r ≡ true → Fits w64 (at + length w)
+  word_fits w r room place h e = record { fits = omega (arith, begins_fits is_letter_of w (drop at s) (sym h ∙ e), length-drop at s) }
 
   pub word_none : at ≡ past (word_len []) s at
   unfolding word_len
@@ -100,14 +84,20 @@ module _ (s : List ℕ) (at : ℕ) where
     unfolding post_len
     post_word_lem p h word = rw (byte_drop, ← test, h) word
 
--- a word of letters does not stand where no letter does
-abbrev lettered : List ℕ → Bool
-lettered [] = false
-lettered (c ∷ w) = within 97 122 c
+-- the loop over a table of words: `e` is where the first of them ends, if it is not one that was tried
+module _ (words : List (Bor (List ℕ))) (s : List ℕ) (at i e : ℕ) (inv : past (word_len (map (λ w. w.now) (drop i words))) s at ≡ e) where
+  pub words_done : length words ≤ i → at ≡ e
+  words_done h = word_none s at ∙ ap (λ (l : List (Bor (List ℕ))). past (word_len (map (λ w. w.now) l)) s at) (sym (drop_of_length-le words h)) ∙ inv
 
-abbrev pub all_lettered : List (List ℕ) → Bool
-all_lettered [] = true
-all_lettered (w ∷ words) = lettered w && all_lettered words
+  module _ (d : Bor (List ℕ)) (h : i < length words) (r : Bool) (test : r ≡ says (get_or words i d).now (drop at s)) where
+    left : map (λ w. w.now) (drop i words) ≡ (get_or words i d).now ∷ map (λ w. w.now) (drop (i + 1) words)
+    left = rw add-one (ap (map (λ w. w.now)) (drop-cons words i d h))
+
+    pub words_found : r ≡ true → at + length (get_or words i d).now ≡ e
+    words_found t = word_here_lem s at _ _ r test _ t refl ∙ ap (λ (l : List (List ℕ)). past (word_len l) s at) (sym left) ∙ inv
+
+    pub words_turn : r ≡ false → past (word_len (map (λ w. w.now) (drop (i + 1) words))) s at ≡ e
+    words_turn t = word_next s at _ _ r test _ t refl ∙ ap (λ (l : List (List ℕ)). past (word_len l) s at) (sym left) ∙ inv
 
 -- a byte that is no letter is alike to none
 not_alike : (b c : ℕ) → is_letter b ≡ false → within 97 122 c ≡ true → is_letter_of b c ≡ false
@@ -136,6 +126,4 @@ lacks_word words s at r test h low =
     let out : is_letter (byte_at (drop at s) 0) ≡ false = ap is_letter (byte_drop s at) ∙ not-true (is_letter (byte_at s at)) (sym test ∙ h) in
     rw (no_letter words (drop at s) low out) (omega arith)
 
-pub ruleset worded = (word_here_lem, word_next, word_none, lacks_word)
-
-pub ruleset part = (separator_there, separator_none, count_there, word_here_lem, word_next, word_none, word_fits, part_there, part_none, post_dash, post_short, post_word_lem, lacks_word, places, word)
+pub ruleset part = (word_fits, words_done, words_found, words_turn, part_there, part_none, post_dash, post_short, post_word_lem, lacks_word, places, word)

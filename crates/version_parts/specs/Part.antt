@@ -1,8 +1,8 @@
 -- The pre, post and dev parts of a version, "with the Appendix's separators and optional numbers", "case ignored". Each definition gives how many
 -- bytes the part in front takes, 0 where it is not there.
-use Rattle.std.specs.Prelude.{ℕ, ◌+◌, Bool, cond, ◌&&◌, List, [], ◌∷◌, ltb, eqb, length, drop}
+use Rattle.std.specs.Prelude.{ℕ, ◌+◌, Bool, true, false, cond, ◌&&◌, List, [], ◌∷◌, ltb, eqb, length, drop}
 use Prim.Native.Char.{code}
-use Rattle.text.specs.Class.{small, is_separator}
+use Rattle.text.specs.Class.{within, small, is_separator}
 use Rattle.text.specs.Scan.{byte_at}
 use Rattle.text.specs.Word.{bytes, begins_by}
 use Rattle.version_number.specs.Number.{number_len}
@@ -19,6 +19,15 @@ says word s = begins_by is_letter_of word s
 unfoldable pub word_len : List (List ℕ) → List ℕ → ℕ
 word_len [] s = 0
 word_len (w ∷ words) s = cond (says w s) (length w) (word_len words s)
+
+-- whether each of some words starts with a small letter, so that none stands where no letter does
+abbrev pub lettered : List ℕ → Bool
+lettered [] = false
+lettered (c ∷ word) = within (code "a") (code "z") c
+
+abbrev pub all_lettered : List (List ℕ) → Bool
+all_lettered [] = true
+all_lettered (w ∷ words) = lettered w && all_lettered words
 
 -- `[-_\.]?`
 abbrev pub sep_len : List ℕ → ℕ

@@ -1,6 +1,7 @@
 // PEP 440: the parts of a version. Each function says where the part that may stand at a place ends.
 #![tactic(auto)]
 
+mod joined;
 mod local;
 mod part;
 mod release;

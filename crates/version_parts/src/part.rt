@@ -1,37 +1,25 @@
 // The pre, post and dev parts.
-ghost use Rattle.std.specs.Prelude.{◌≡◌, not, drop};
-ghost use Rattle.text.specs.Class.{is_letter};
-ghost use Rattle.text.specs.Scan.{byte_at};
-ghost use Rattle.version_parts.specs.Part.{is_letter_of, says, word_len, sep_len, count_len, pre_words, post_words, dev_words, part_len, pre_len, post_len, dev_len};
+ghost use Rattle.std.specs.Prelude.{◌≡◌, map, IsTrue};
+ghost use Rattle.version_parts.specs.Part.{is_letter_of, all_lettered, word_len, sep_len, count_len, part_len, pre_len, post_len, dev_len};
 ghost use Rattle.version_number.specs.Place.{past};
 
-use text::{byte_at, has, is_letter, separator_at, small_of};
+use text::{byte_at, has, is_letter, separator_at, small_of, word_like};
 use version_number::number_end;
+
+// A longer word stands before one that it begins with.
+const PRE_WORDS: [&[u8]; 8] = [
+    b"alpha", b"a", b"beta", b"b", b"c", b"rc", b"preview", b"pre",
+];
+
+const POST_WORDS: [&[u8]; 3] = [b"post", b"rev", b"r"];
+
+const DEV_WORDS: [&[u8]; 1] = [b"dev"];
 
 // Whether a byte is a letter, its case ignored.
 pub fn is_letter_of(b: u8, letter: u8) -> bool
     ensures { result ≡ is_letter_of b letter }
 {
     small_of(b) == letter
-}
-
-// Whether a word of small letters stands at a place, case ignored.
-fn says_at(text: &[u8], start: usize, word: &[u8]) -> bool
-    ensures { result ≡ says word.now (drop start text.now) }
-{
-    let mut at = start;
-    let mut i = 0;
-    while i < word.len() {
-        if text.len() <= at {
-            return false;
-        }
-        if !is_letter_of(text[at], word[i]) {
-            return false;
-        }
-        at += 1;
-        i += 1;
-    }
-    true
 }
 
 // The place behind the separator that may stand at a place.
@@ -48,109 +36,47 @@ fn count_end(text: &[u8], at: usize) -> usize
     number_end(text, separator_end(text, at))
 }
 
-// No word is there where no letter is: most versions have no such part, and are through with it here.
-fn lacks_letter(text: &[u8], at: usize) -> bool
-    ensures { result ≡ not (is_letter (byte_at text.now at)) }
+// The place behind the first of the words that stands at a place, its case ignored.
+#[tactic(auto, using(crate::proofs::Parts::part))]
+fn word_end(text: &[u8], at: usize, words: &[&[u8]]) -> usize
+    ensures { result ≡ past (word_len (map (λ w. w.now) words.now)) text.now at }
 {
-    !is_letter(byte_at(text, at))
-}
-
-// The eight words of a pre part in three steps, which keeps each proof short.
-fn last_pre_word_end(text: &[u8], at: usize) -> usize
-    ensures { result ≡ past (word_len (drop 6 pre_words)) text.now at }
-{
-    if says_at(text, at, b"preview") {
-        return at + 7;
-    }
-    if says_at(text, at, b"pre") {
-        return at + 3;
+    for word in words {
+        if word_like(text, at, word, |b, letter| is_letter_of(b, letter)) {
+            return at + word.len();
+        }
     }
     at
 }
 
-fn later_pre_word_end(text: &[u8], at: usize) -> usize
-    ensures { result ≡ past (word_len (drop 3 pre_words)) text.now at }
+// The place behind the part that may stand at a place: one of some words, with a separator and a number.
+#[tactic(auto, using(crate::proofs::Parts::part))]
+fn part_end(text: &[u8], at: usize, words: &[&[u8]]) -> usize
+    requires { IsTrue (all_lettered (map (λ w. w.now) words.now)) }
+    ensures { result ≡ past (part_len (map (λ w. w.now) words.now)) text.now at }
 {
-    if says_at(text, at, b"b") {
-        return at + 1;
-    }
-    if says_at(text, at, b"c") {
-        return at + 1;
-    }
-    if says_at(text, at, b"rc") {
-        return at + 2;
-    }
-    last_pre_word_end(text, at)
-}
-
-fn pre_word_end(text: &[u8], at: usize) -> usize
-    ensures { result ≡ past (word_len pre_words) text.now at }
-{
-    if lacks_letter(text, at) {
+    let from = separator_end(text, at);
+    // No word is there where no letter is: most versions have no such part, and are through with it here.
+    if !is_letter(byte_at(text, from)) {
         return at;
     }
-    if says_at(text, at, b"alpha") {
-        return at + 5;
+    let word = word_end(text, from, words);
+    if from < word {
+        count_end(text, word)
+    } else {
+        at
     }
-    if says_at(text, at, b"a") {
-        return at + 1;
-    }
-    if says_at(text, at, b"beta") {
-        return at + 4;
-    }
-    later_pre_word_end(text, at)
 }
 
-fn post_word_end(text: &[u8], at: usize) -> usize
-    ensures { result ≡ past (word_len post_words) text.now at }
-{
-    if lacks_letter(text, at) {
-        return at;
-    }
-    if says_at(text, at, b"post") {
-        return at + 4;
-    }
-    if says_at(text, at, b"rev") {
-        return at + 3;
-    }
-    if says_at(text, at, b"r") {
-        return at + 1;
-    }
-    at
-}
-
-fn dev_word_end(text: &[u8], at: usize) -> usize
-    ensures { result ≡ past (word_len dev_words) text.now at }
-{
-    if says_at(text, at, b"dev") {
-        return at + 3;
-    }
-    at
-}
-
+#[tactic(auto, using(crate::proofs::Parts::part))]
 pub fn pre_end(text: &[u8], at: usize) -> usize
     ensures { result ≡ past pre_len text.now at }
 {
-    let from = separator_end(text, at);
-    let word = pre_word_end(text, from);
-    if from < word {
-        return count_end(text, word);
-    }
-    at
-}
-
-fn post_part_end(text: &[u8], at: usize) -> usize
-    ensures { result ≡ past (part_len post_words) text.now at }
-{
-    let from = separator_end(text, at);
-    let word = post_word_end(text, from);
-    if from < word {
-        return count_end(text, word);
-    }
-    at
+    part_end(text, at, &PRE_WORDS)
 }
 
 // A post part may be a `-` and a number alone.
+#[tactic(auto, using(crate::proofs::Parts::part))]
 pub fn post_end(text: &[u8], at: usize) -> usize
     ensures { result ≡ past post_len text.now at }
 {
@@ -159,18 +85,13 @@ pub fn post_end(text: &[u8], at: usize) -> usize
         if at + 1 < end {
             return end;
         }
-        return post_part_end(text, at);
     }
-    post_part_end(text, at)
+    part_end(text, at, &POST_WORDS)
 }
 
+#[tactic(auto, using(crate::proofs::Parts::part))]
 pub fn dev_end(text: &[u8], at: usize) -> usize
     ensures { result ≡ past dev_len text.now at }
 {
-    let from = separator_end(text, at);
-    let word = dev_word_end(text, from);
-    if from < word {
-        return count_end(text, word);
-    }
-    at
+    part_end(text, at, &DEV_WORDS)
 }

@@ -5,6 +5,7 @@ ghost use Rattle.version_number.specs.Number.{number_len};
 ghost use Rattle.version_number.specs.Place.{past};
 ghost use Rattle.version_parts.specs.Release.{v_len, epoch_len, is_dot};
 
+use crate::joined::items_end;
 use crate::part::is_letter_of;
 use text::{byte_at, has};
 use version_number::number_end;
@@ -20,30 +21,21 @@ pub fn v_end(text: &[u8], at: usize) -> usize
     }
 }
 
+#[tactic(auto, using(crate::proofs::Releases::released))]
 pub fn epoch_end(text: &[u8], at: usize) -> usize
     ensures { result ≡ past epoch_len text.now at }
 {
     let end = number_end(text, at);
-    if at < end {
-        if has(text, end, b'!') {
-            return end + 1;
-        }
-        return at;
+    if at < end && has(text, end, b'!') {
+        end + 1
+    } else {
+        at
     }
-    at
 }
 
 // The place behind the further release numbers, each behind a `.`.
 pub fn release_end(text: &[u8], first: usize) -> usize
     ensures { result ≡ past (more is_dot number_len) text.now first }
 {
-    let mut at = first;
-    while has(text, at, b'.') {
-        let next = number_end(text, at + 1);
-        if next <= at + 1 {
-            return at;
-        }
-        at = next;
-    }
-    at
+    items_end(text, first, |b| b == b'.', |at| number_end(text, at))
 }

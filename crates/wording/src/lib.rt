@@ -1,8 +1,7 @@
-// What was read, in words: the codes of a comparison, and whole answers as a row of text.
+// What was read, as a row of text in the probe's notation: a refusal, spans, and the lists of a marker.
 #![tactic(auto)]
 
+mod list;
 mod rows;
-mod words;
 
-pub use rows::{put_marker, put_parts, put_refused, put_spans};
-pub use words::{put_key, put_operator, put_sort};
+pub use rows::{Parts, put_marker, put_parts, put_refused, put_spans};

@@ -28,8 +28,8 @@ one_more n last b front text room h was =
 pub loop-len-preserved : goal.loop-len-preserved
 loop-len-preserved g c =
     let so_far = c.loop-len.invariant in
-    let room : length c.loop-len.line ≡ 20001 = sym (length-set c.loop-len.line c.loop-len.len c.in-Byte.byte) ∙ sym (ap length c.hold.ensures) ∙ c.hold.array_long in (
-      so_far.0 ++ c.in-Byte.byte ∷ [],
-      rw c.hold.ensures (one_more c.loop-len.len c.loop-len.last c.in-Byte.byte c.loop-len.line so_far.0 room c.if-byte-eq10.false so_far.1),
-      Consumes-trans _ _ _ so_far.0 (c.in-Byte.byte ∷ []) so_far.2 c.in-Byte.ensures,
+    let room : length c.loop-len.line ≡ 20001 = sym (length-set c.loop-len.line c.loop-len.len c.in-Ok-Some.byte) ∙ sym (ap length c.hold.ensures) ∙ c.hold.array_long in (
+      so_far.0 ++ c.in-Ok-Some.byte ∷ [],
+      rw c.hold.ensures (one_more c.loop-len.len c.loop-len.last c.in-Ok-Some.byte c.loop-len.line so_far.0 room c.in-Ok-Some.byte-test.1 so_far.1),
+      Consumes-trans _ _ _ so_far.0 (c.in-Ok-Some.byte ∷ []) so_far.2 (rw c.in-Ok-Some.field-0-is at c.in-Ok-Some.ensures),
     )

@@ -1,23 +1,19 @@
--- What the inner functions do to the arrays of numbers: a tree's effect on them, piece by piece. What the doors promise does not speak of these.
+-- What the inner functions do to the sheet of numbers: a tree's effect on it, piece by piece. What the doors promise does not speak of these.
 use Prim.Native.Char.{code}
-use Rattle.std.specs.Prelude.{ℕ, ◌+◌, ◌-◌, ◌*◌, ◌≤◌, ◌<◌, Bool, true, false, cond, ◌||◌, List, ◌≡◌, ltb, eqb, length, set}
+use Rattle.std.specs.Prelude.{ℕ, ◌+◌, ◌-◌, ◌*◌, ◌≤◌, ◌<◌, Bool, true, false, cond, ◌||◌, List, ◌≡◌, ltb, eqb, length, Option, Some, None, Result, Ok, Err}
 use Rattle.marker_verdict.specs.declared.verdict.Verdict.{Verdict}
 use Rattle.marker_verdict.specs.declared.verdict.Verdict.TheVariants.{Kept, KeptWarned, Ignored, IgnoredTwice}
-use Rattle.marker_kind.specs.declared.kind.Comparison.{Comparison}
+use Rattle.marker_kind.specs.Code.{kind_number}
 use Rattle.arrays.specs.Front.{pad}
-use Rattle.marker_store.specs.Numbers.{put_comparison, put_warning, no_counts}
 use Rattle.marker_store.specs.Room.{comparisons_room, warnings_room}
+use Rattle.marker_store.specs.Sheet.{keeping, warning, pushed}
 use Rattle.cursor.specs.Limits.{max_comparisons}
 use Rattle.program_check.specs.Rules.{max_words}
 use Rattle.marker_store.specs.declared.marks.Counts.{Counts}
-use Rattle.marker_store.specs.declared.marks.Warning.{Warning}
+use Rattle.marker_store.specs.declared.sheet.Sheet.{Sheet}
 use Rattle.marker_steps.specs.Grammar.{Tree, compared, both, either, group, Parsed, got, fault, kept_in, warned_in, warning_of, Ahead, on, off}
 use Rattle.marker_steps.specs.Marking.{some, Marking, marking, nothing, comparisons_as, warnings_as}
-use Rattle.marker_steps.specs.declared.part.Onward.{Onward}
-use Rattle.marker_steps.specs.declared.part.Onward.TheVariants.{On, Stop}
 use Rattle.marker_steps.specs.declared.part.Part.{Part}
-use Rattle.marker_steps.specs.declared.part.Part.TheVariants.{Read, Refused}
-use Rattle.marker_steps.specs.declared.part.Progress.{Progress}
 use Rattle.text.specs.Class.{is_space}
 use Rattle.cursor.specs.Cursor.{cursor}
 use Rattle.refusal.specs.Refusal.{refusal}
@@ -27,53 +23,33 @@ use Rattle.refusal.specs.declared.fault.Fault.TheVariants.{ExpectedFoundEnd, Exp
 use Rattle.refusal.specs.declared.fault.Refusal.{Refusal}
 use Rattle.refusal.specs.declared.place.Span.{Span}
 
--- the arrays of numbers, each with its count
-pub record Raw : Type 0 where
-  pub comps : List ℕ
-  pub kept : ℕ
-  pub warns : List ℕ
-  pub warned : ℕ
-  pub words : List ℕ
-  pub count : ℕ
-
--- these lists in them, and zeros behind
-unfoldable pub raw_of : Marking → Raw
+-- these lists in a sheet's arrays, and zeros behind
+unfoldable pub raw_of : Marking → Sheet
 raw_of m = record {
-  comps = pad comparisons_room 0 (comparisons_as m);
-  kept = length m.comparisons;
-  warns = pad warnings_room 0 (warnings_as m);
-  warned = length m.warnings;
+  comparisons = pad comparisons_room 0 (comparisons_as m);
+  warnings = pad warnings_room 0 (warnings_as m);
   words = pad max_words 0 m.words;
-  count = length m.words;
+  counts = record { kept = length m.comparisons; warned = length m.warnings; words = length m.words };
 }
 
--- how far a part was read, and the arrays then
+-- a part that ends at a place, and whether anything of it was kept
+abbrev pub read : Cursor → Bool → Result Part Refusal
+read c b = Ok (record { next = c; some = b })
+
+-- how far a part was read, and the sheet then
 pub record State : Type 0 where
-  pub part : Part
-  pub raw : Raw
+  pub part : Result Part Refusal
+  pub raw : Sheet
 
--- what the code's arrays and counts are
-abbrev pub view_of : List ℕ → List ℕ → List ℕ → Counts → Raw
-view_of cs ws ps n = record { comps = cs; kept = n.kept; warns = ws; warned = n.warned; words = ps; count = n.words }
+-- after a refusal the sheet says nothing
+abbrev pub raw_in : Result Part Refusal → Sheet → Sheet
+raw_in (Ok p) r = r
+raw_in (Err why) r = raw_of nothing
 
--- a refusal: nothing was read
-abbrev pub halted : Refusal → Progress
-halted why = record { part = Refused why; counts = no_counts }
-
--- after a refusal the arrays say nothing
-abbrev pub raw_in : Part → Raw → Raw
-raw_in (Read c b) r = r
-raw_in (Refused why) r = raw_of nothing
-
-abbrev pub shows : Progress → List ℕ → List ℕ → List ℕ → State
-shows a cs ws ps = record { part = a.part; raw = raw_in a.part (view_of cs ws ps a.counts) }
+abbrev pub shows : Result Part Refusal → Sheet → State
+shows a r = record { part = a; raw = raw_in a r }
 
 -- the counts are within the arrays, with two words at most for each comparison
-pub record Room (r : Raw) : Type 0 where
-  pub kept_fits : r.kept ≤ max_comparisons
-  pub warned_fits : r.warned ≤ max_comparisons
-  pub count_fits : r.count ≤ 2 * r.kept
-
 pub record Inside (n : Counts) : Type 0 where
   pub kept_fits : n.kept ≤ max_comparisons
   pub warned_fits : n.warned ≤ max_comparisons
@@ -83,113 +59,76 @@ pub record Inside (n : Counts) : Type 0 where
 abbrev pub Takes : Verdict → Span → Counts → Type 0
 Takes v x n = (n.warned + length (warned_in v x) ≤ max_comparisons) × (n.kept + length (kept_in v) ≤ max_comparisons)
 
-unfoldable pub pushed : Raw → ℕ → Raw
-pushed r v = record {
-  comps = r.comps;
-  kept = r.kept;
-  warns = r.warns;
-  warned = r.warned;
-  words = set r.words r.count v;
-  count = r.count + 1;
-}
-
-unfoldable pub keeping : Comparison → Raw → Raw
-keeping c r = record {
-  comps = put_comparison r.comps r.kept c;
-  kept = r.kept + 1;
-  warns = r.warns;
-  warned = r.warned;
-  words = set r.words r.count r.kept;
-  count = r.count + 1;
-}
-
-unfoldable pub warning : Warning → Raw → Raw
-warning w r = record {
-  comps = r.comps;
-  kept = r.kept;
-  warns = put_warning r.warns r.warned w;
-  warned = r.warned + 1;
-  words = r.words;
-  count = r.count;
-}
-
-abbrev pub joining : Bool → Bool → ℕ → Raw → Raw
+abbrev pub joining : Bool → Bool → ℕ → Sheet → Sheet
 joining true true v r = pushed r v
 joining true false v r = r
 joining false d v r = r
 
 -- a comparison goes in: its warnings first
-abbrev pub taking : Verdict → Span → Raw → Raw
+abbrev pub taking : Verdict → Span → Sheet → Sheet
 taking (Kept c) x r = keeping c r
 taking (KeptWarned c) x r = keeping c (warning (warning_of 4 x) r)
-taking (Ignored kind) x r = warning (warning_of kind x) r
-taking (IgnoredTwice kind) x r = warning (warning_of kind x) (warning (warning_of kind x) r)
+taking (Ignored kind) x r = warning (warning_of (kind_number kind) x) r
+taking (IgnoredTwice kind) x r = warning (warning_of (kind_number kind) x) (warning (warning_of (kind_number kind) x) r)
 
--- the arrays with a tree read after them
-unfoldable pub emit : Tree → Raw → Raw
+-- the sheet with a tree read after it
+unfoldable pub emit : Tree → Sheet → Sheet
 emit (compared v x) r = taking v x r
 emit (both a b) r = joining (some a) (some b) 64 (emit b (emit a r))
 emit (either a b) r = joining (some a) (some b) 65 (emit b (emit a r))
 emit (group a) r = emit a r
 
 abbrev pub stopped : Refusal → State
-stopped why = record { part = Refused why; raw = raw_of nothing }
+stopped why = record { part = Err why; raw = raw_of nothing }
 
-abbrev pub read_to : Cursor → Bool → Raw → State
-read_to c b r = record { part = Read c b; raw = r }
+abbrev pub read_to : Cursor → Bool → Sheet → State
+read_to c b r = record { part = read c b; raw = r }
 
 -- what an inner function comes to that reads p after r
-unfoldable pub state_of : Parsed → Raw → State
-state_of (got t e) r = record { part = Read (cursor e) (some t); raw = emit t r }
+unfoldable pub state_of : Parsed → Sheet → State
+state_of (got t e) r = read_to (cursor e) (some t) (emit t r)
 state_of (fault why) r = stopped why
 
 -- what it comes to that reads by `item`, given how many comparisons and warnings there are before it
-abbrev pub read_after : (ℕ → ℕ → Parsed) → Raw → State
-read_after item r = state_of (item r.kept r.warned) r
+abbrev pub read_after : (ℕ → ℕ → Parsed) → Sheet → State
+read_after item r = state_of (item r.counts.kept r.counts.warned) r
 
 -- what the core comes to that reads p as the whole marker
 unfoldable pub whole_of : Parsed → State
-whole_of (got t e) = record { part = Read (cursor e) (some t); raw = raw_of (marking t) }
+whole_of (got t e) = read_to (cursor e) (some t) (raw_of (marking t))
 whole_of (fault why) = stopped why
 
--- whether a chain goes on past its left side
-abbrev pub onward_at : Ahead → Bool → Onward
-onward_at (on d) b = On (cursor d) b
-onward_at off b = Stop
+-- whether a chain goes on past its left side: from where, and whether that side kept anything
+abbrev pub onward_at : Ahead → Bool → Option (Cursor × Bool)
+onward_at (on d) b = Some (cursor d, b)
+onward_at off b = None
 
-abbrev pub onward : Part → (ℕ → Ahead) → Onward
-onward (Read c b) goes = onward_at (goes c.at) b
-onward (Refused why) goes = Stop
+abbrev pub onward : Result Part Refusal → (ℕ → Ahead) → Option (Cursor × Bool)
+onward (Ok p) goes = onward_at (goes p.next.at) p.some
+onward (Err why) goes = None
 
 -- the right side, joined to a left side that kept something or not
-abbrev pub joined_out : Part → Bool → State → ℕ → State
-joined_out (Read c d) b a v = record { part = Read c (b || d); raw = joining b d v a.raw }
-joined_out (Refused why) b a v = a
+abbrev pub joined_out : Result Part Refusal → Bool → State → ℕ → State
+joined_out (Ok p) b a v = read_to p.next (b || p.some) (joining b p.some v a.raw)
+joined_out (Err why) b a v = a
 
 unfoldable pub joined : Bool → State → ℕ → State
 joined b a v = joined_out a.part b a v
 
 -- a part of this kind leaves room for a word
-unfoldable pub Spare : Bool → State → Type 0
-Spare b a = (c : Cursor) → a.part ≡ Read c b → a.raw.count < max_words
-
-unfoldable pub Slack : Bool → Progress → Type 0
-Slack b a = (c : Cursor) → a.part ≡ Read c b → a.counts.words < max_words
-
--- a part that was read has counts within the arrays
-unfoldable pub Fits : Progress → Type 0
-Fits a = (c : Cursor) (b : Bool) → a.part ≡ Read c b → (a.counts.kept ≤ max_comparisons) × (a.counts.warned ≤ max_comparisons)
+unfoldable pub Slack : Bool → State → Type 0
+Slack b a = (c : Cursor) → a.part ≡ read c b → a.raw.counts.words < max_words
 
 -- a group, from its inside
-abbrev pub closed_at : List ℕ → ℕ → ℕ → Bool → Raw → State
+abbrev pub closed_at : List ℕ → ℕ → ℕ → Bool → Sheet → State
 closed_at s opened e b r =
     cond (eqb (byte_at s e) (code ")")) (read_to (cursor (e + 1)) b r)
     (cond (ltb e (length s)) (stopped (refusal ExpectedFoundOther e 1))
     (stopped (refusal ExpectedFoundEnd opened 1)))
 
-abbrev pub closed_out : Part → List ℕ → ℕ → State → State
-closed_out (Read c b) s opened a = closed_at s opened (skip is_space s c.at) b a.raw
-closed_out (Refused why) s opened a = a
+abbrev pub closed_out : Result Part Refusal → List ℕ → ℕ → State → State
+closed_out (Ok p) s opened a = closed_at s opened (skip is_space s p.next.at) p.some a.raw
+closed_out (Err why) s opened a = a
 
 unfoldable pub closed_by : List ℕ → ℕ → State → State
 closed_by s opened a = closed_out a.part s opened a
@@ -200,9 +139,9 @@ finished_at s c b here a =
     cond (ltb here (length s)) (stopped (refusal MarkerGoesOn here (length s - here - 1)))
     (cond b a (read_to c b (pushed a.raw 66)))
 
-abbrev pub finished_out : Part → List ℕ → State → State
-finished_out (Read c b) s a = finished_at s c b (skip is_space s c.at) a
-finished_out (Refused why) s a = a
+abbrev pub finished_out : Result Part Refusal → List ℕ → State → State
+finished_out (Ok p) s a = finished_at s p.next p.some (skip is_space s p.next.at) a
+finished_out (Err why) s a = a
 
 unfoldable pub finished : List ℕ → State → State
 finished s a = finished_out a.part s a

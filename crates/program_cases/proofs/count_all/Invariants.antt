@@ -1,8 +1,5 @@
-use Rattle.std.proofs.Common.{◌-◌, ◌≤◌}
+use Rattle.std.proofs.Common.{◌≤◌}
 use Rattle.program_cases.proofs.count_all.Given as goal
 
 abbrev pub invariant-loop-cases : goal.invariant-loop-cases
 invariant-loop-cases l = l.differ ≤ l.cases
-
-abbrev pub decreases-loop-cases : goal.decreases-loop-cases
-decreases-loop-cases l = 1000000 - l.cases

@@ -1,20 +1,10 @@
--- What the two sorts of words make of values: the runner's parts.
-use Rattle.program_check.specs.Tree.{Sense}
-use Rattle.program_check.specs.declared.word.Word.{Word}
-use Rattle.program_check.specs.declared.word.Word.TheVariants.{Push, And, Or, Yes, Unknown}
+-- What the runner's parts ask: that a word finds what it needs.
+use Rattle.std.specs.Prelude.{⊤}
+use Rattle.program_run.specs.Machine.{State, stands, lacks_value, lacks_slot, lacks_meaning}
 
--- what an operator makes of the older value and the latest; asked of operators only
-abbrev pub joins : {A : Type 0} → (A → A → A) → (A → A → A) → Word → A → A → A
-joins f g (Push k) x y = x
-joins f g And x y = f x y
-joins f g Or x y = g x y
-joins f g Yes x y = x
-joins f g Unknown x y = x
-
--- what a push pushes; asked of pushes only
-abbrev pub says : {A : Type 0} → Sense A → Word → A
-says m (Push k) = m.number k.0
-says m And = m.yes
-says m Or = m.yes
-says m Yes = m.yes
-says m Unknown = m.yes
+-- nothing is lacking
+abbrev pub IsStanding : {A : Type 0} → State A → Type 0
+IsStanding (stands st) = ⊤
+IsStanding lacks_value = ⊥
+IsStanding lacks_slot = ⊥
+IsStanding lacks_meaning = ⊥

@@ -1,21 +1,11 @@
-use mathlib.Core.Path.{sym, ap, ◌∙◌}
-use Rattle.marker.proofs.Doors.{bad_answer}
-use Rattle.marker.proofs.Quickly.{refused_quick_outcome, refused_quick_counts, refused_comps, refused_warns, refused_words}
-use Rattle.refusal.specs.Refusal.{told}
-use Rattle.marker.specs.declared.quick.Quick.{Quick}
+use Rattle.marker.proofs.Doors.{bad_answer, refused_told}
+use Rattle.marker.proofs.Quickly.{refused_comps, refused_warns, refused_words}
+use Rattle.marker.specs.Answer.{counts_of}
+use Rattle.std.proofs.lemmas.Result.{err_from_is_err_and}
 use Rattle.marker.proofs.quick.read_quick.Goals as goal
 
-pub returns-in-Refused-clause-outcome : goal.returns-in-Refused-clause-outcome
-returns-in-Refused-clause-outcome c = let bad = sym (bad_answer c.args.line.now _ c.check_line.ensures c.in-Refused.is) in ap (λ (q : Quick). told q.outcome) c.refused_quick.ensures ∙ refused_quick_outcome _ _ bad
-
-pub returns-in-Refused-clause-counts : goal.returns-in-Refused-clause-counts
-returns-in-Refused-clause-counts c = let bad = sym (bad_answer c.args.line.now _ c.check_line.ensures c.in-Refused.is) in ap (λ (q : Quick). q.counts) c.refused_quick.ensures ∙ refused_quick_counts _ _ bad
-
-pub returns-in-Refused-clause-comparisons : goal.returns-in-Refused-clause-comparisons
-returns-in-Refused-clause-comparisons c = let bad = sym (bad_answer c.args.line.now _ c.check_line.ensures c.in-Refused.is) in refused_comps _ _ bad _
-
-pub returns-in-Refused-clause-warnings : goal.returns-in-Refused-clause-warnings
-returns-in-Refused-clause-warnings c = let bad = sym (bad_answer c.args.line.now _ c.check_line.ensures c.in-Refused.is) in refused_warns _ _ bad _
-
-pub returns-in-Refused-clause-words : goal.returns-in-Refused-clause-words
-returns-in-Refused-clause-words c = let bad = sym (bad_answer c.args.line.now _ c.check_line.ensures c.in-Refused.is) in refused_words _ _ bad _
+pub returns-in_err-check_line : goal.returns-in_err-check_line
+returns-in_err-check_line c =
+    let bad = bad_answer c.args.line.now _ c.check_line.ensures c.in_err-check_line.was in
+    let p = err_from_is_err_and c.from_residual.result c.from_residual.ensures.1 in
+    record { answer = rw (p.1, p.2) (refused_told counts_of _ _ bad); comparisons = refused_comps _ _ bad _; warnings = refused_warns _ _ bad _; words = refused_words _ _ bad _ }

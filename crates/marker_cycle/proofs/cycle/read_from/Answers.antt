@@ -1,9 +1,8 @@
-use Rattle.marker_steps.proofs.Laws.{slack_of}
-use Rattle.marker_cycle.proofs.Whole.{line_spare, line_state, whole_state}
+use Rattle.marker_cycle.proofs.Whole.{line_slack, line_state, whole_state, counts_nothing}
 use Rattle.marker_cycle.proofs.cycle.read_from.Goals as goal
 
 pub finish-requires : goal.finish-requires
-finish-requires c = slack_of _ _ _ _ _ (line_spare _ _ _ (line_state _ _ c.requires c.or_chain-whole.ensures))
+finish-requires c = line_slack _ _ _ (line_state _ _ (counts_nothing c.args.sheet.now c.default-sheet.ensures c.requires) c.or_chain-whole.ensures)
 
 pub returns : goal.returns
-returns c = whole_state _ _ c.requires c.or_chain-whole.ensures (c.finish.ensures _ _)
+returns c = whole_state _ _ (counts_nothing c.args.sheet.now c.default-sheet.ensures c.requires) c.or_chain-whole.ensures c.finish.ensures

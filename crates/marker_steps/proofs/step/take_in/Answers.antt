@@ -1,12 +1,7 @@
-use Rattle.marker_steps.proofs.Laws.{shows_refused}
-use Rattle.marker_steps.specs.Grammar.{settle}
-use Rattle.marker_steps.specs.inner.Steps.{state_of}
+use native.Mathlib.Omega.{arith}
+use Rattle.marker_steps.proofs.Laws.{kept_few, warned_few}
 use Rattle.marker_steps.proofs.step.take_in.Goals as goal
 
-pub returns-in-Comparison : goal.returns-in-Comparison
-unfolding settle state_of
-returns-in-Comparison c = rw c.in-Comparison.is c.settle_one.ensures
-
-pub returns-in-Fault : goal.returns-in-Fault
-unfolding settle state_of
-returns-in-Fault c = rw c.in-Fault.is (shows_refused _ _ _ _ c.refused.ensures)
+-- whichever of the two sums comes first
+pub overflow_add-sheet : goal.overflow_add-sheet
+overflow_add-sheet c = let found = c.in_ok-verdict.field-0 in omega (arith, c.warned_in-warned.ensures found.span, warned_few found.verdict found.span, kept_few found.verdict)

@@ -1,23 +1,17 @@
-use Rattle.version_operator.specs.Operator.{operator_among}
-use Rattle.text.proofs.Cases.{cases}
+use Rattle.std.proofs.Common.{rules, ◌∙◌, sym}
+use Rattle.std.proofs.lemmas.Iterator.{YieldsList-from_slice}
+use Rattle.std.proofs.lemmas.Iterator.Adapters.{option_map_id}
+use Rattle.std.proofs.lemmas.Iterator.Consumers.{YieldsList-from_copied}
+use Rattle.std.proofs.lemmas.Iterator.Search.{find_from_yields_List}
+use Rattle.text.specs.Word.{bytes, spells}
+use Rattle.version_operator.proofs.Operators.{found}
+use Rattle.version_operator.specs.Operator.{spelling, operators}
 use Rattle.version_operator.proofs.operator.operator_in.Goals as goal
 
-pub returns-then-spelled : goal.returns-then-spelled
-unfolding operator_among
-returns-then-spelled c = search cases depth 10
-
-pub returns-then-spelled-2 : goal.returns-then-spelled-2
-unfolding operator_among
-returns-then-spelled-2 c = search cases depth 10
-
-pub returns-then-spelled-3 : goal.returns-then-spelled-3
-unfolding operator_among
-returns-then-spelled-3 c = search cases depth 10
-
-pub returns-then-spelled-4 : goal.returns-then-spelled-4
-unfolding operator_among
-returns-then-spelled-4 c = search cases depth 10
-
 pub returns : goal.returns
-unfolding operator_among
-returns c = search cases depth 10
+returns c =
+    sym (option_map_id _)
+    ∙ find_from_yields_List (λ op. spells (bytes (spelling op)) c.args.text.now c.args.span) c.find.new.self _ c.find.result c.find.ensures.ran
+    (YieldsList-from_copied (YieldsList-from_slice operators (search rules)))
+    (λ x b q k. search rules)
+    ∙ found operators c.args.text.now c.args.span

@@ -1,0 +1,8 @@
+use mathlib.Core.Path.{ap, ◌∙◌}
+use Rattle.figures.proofs.Laws.{count_told}
+use Rattle.figures.specs.Numbers.{count_figures}
+use Rattle.gateway.proofs.texts.hulmisker_normalise.Goals as goal
+
+pub returns-clause-figures : goal.returns-clause-figures
+returns-clause-figures c =
+    c.tell.ensures.figures ∙ rw c.unwrap_or.ensures (count_told c.normalise-answer.result) ∙ ap count_figures c.normalise-answer.ensures.answer

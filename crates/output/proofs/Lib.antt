@@ -1,0 +1,2 @@
+-- how what waits goes on
+mod Gathered
