@@ -28,6 +28,7 @@ impl Cursor {
     // Extras of a line, and its specifiers.
     pub const MAX_LIST: usize = 32;
 
+    // Document 01 names this form, a start function without self, and no Default.
     pub fn start() -> Cursor
         ensures { result.at ≡ 0 }
     {
@@ -75,6 +76,7 @@ impl Cursor {
         Cursor { at: self.at + run }
     }
 
+    // The scans by name, each one line over `take`: document 01 names the moves, and docs/PROMISES.md these.
     pub fn skip_whitespace(self, line: &[u8]) -> Cursor
         ensures { result.at ≡ skip is_space line.now self.at }
     {

@@ -1,5 +1,5 @@
 // A requirement line, extras alone and a marker alone: the lists go to the fronts of the lent arrays, which a refusal leaves as they were.
-ghost use Rattle.std.specs.Prelude.{[], ◌∷◌, ◌≡◌};
+ghost use Rattle.std.specs.Prelude.{[], ◌≡◌};
 ghost use Rattle.arrays.specs.Front.{onto};
 ghost use Rattle.extras.specs.Entry.{entry, counts, written};
 ghost use Rattle.marker.specs.Answer.{entry_answer, entry_marking};

@@ -1,7 +1,7 @@
 // The lines of what is read, one by one. Bytes are fetched many at a time into an array that the caller lends.
 #![tactic(auto)]
 
-ghost use Rattle.std.specs.Prelude.{ℕ, List, min, ◌≡◌, ◌<◌, ◌≤◌, ◌++◌, ◌∷◌, [], length, take, drop, slice_index, slice_set};
+ghost use Rattle.std.specs.Prelude.{ℕ, List, min, ◌≡◌, ◌<◌, ◌≤◌, ◌++◌, ◌∷◌, [], length, take, drop, slice_set};
 ghost use Rattle.std.specs.Io.KnownBytes.{Consumes};
 ghost use Rattle.input.specs.Coming.{coming, mark, IsLine, IsTrueEnd, IsNext};
 
@@ -21,6 +21,7 @@ pub struct Feed {
 }
 
 // By which of three a line ended.
+// Three ways, and no Result: `take_line` promises which it was, and its callers ask for the three.
 #[derive(Clone, Copy, Debug)]
 pub enum Ended {
     ByLineFeed,
@@ -41,6 +42,7 @@ pub struct Line {
 
 impl Feed {
     // Nothing is fetched yet.
+    // (No Default: docs/PROMISES.md names this function, and an edit turns it.)
     pub fn empty() -> Feed
         ensures { result ≡ record { at = 0; end = 0 } }
     {

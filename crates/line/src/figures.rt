@@ -16,6 +16,7 @@ pub struct Figures {
     pub marker: Counts,
 }
 
+// A function here and no method: `Wanted` is another crate's, and docs/PROMISES.md names this.
 pub fn url_of(wanted: Wanted) -> Option<Span>
     ensures { result ≡ url_of wanted }
 {

@@ -82,6 +82,7 @@ fn later_at(line: &[u8], bracket: usize, at: usize) -> Result<Item, Refusal>
     Err(Refusal::new(Fault::ExtraJoin, at, 1))
 }
 
+// `fresh`, whether an extra may stand without a comma before it, is the list reader's own: `spans::read_list` asks by it. So the definition has it.
 fn inside_at(line: &[u8], bracket: usize, fresh: bool, at: usize) -> Result<Item, Refusal>
     requires { at < length line.now }
     ensures { result ≡ inside_at line.now bracket fresh at }

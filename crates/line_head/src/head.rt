@@ -11,6 +11,7 @@ use refusal::Refusal;
 use spans::SpanNumbers;
 
 // The parts of a line: the extras go to the first array, the specifiers to the second.
+// Two arrays, and no struct of them: each door lends its own and copies each to where C wants it.
 pub fn head_of(
     line: &[u8],
     list: &mut SpanNumbers,

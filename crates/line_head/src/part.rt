@@ -27,6 +27,7 @@ pub struct Head {
     pub marker: Option<Cursor>,
 }
 
+// (docs/PROMISES.md names it as a function.)
 pub fn text_count(wanted: Wanted) -> usize
     ensures { result ≡ text_count wanted }
 {

@@ -48,6 +48,7 @@ fn bare_at(line: &[u8], from: usize) -> Result<Item, Refusal>
     text_to(line, from, stop)
 }
 
+// By form: the definition `text_at` asks so too, and a closure for each form would be no plainer.
 fn text_at(line: &[u8], form: Form, from: usize) -> Result<Item, Refusal>
     requires { from ≤ length line.now }
     ensures { result ≡ text_at line.now form from }

@@ -32,6 +32,7 @@ pub struct Requirement {
 }
 
 // The program of a line without a marker is the one word 66.
+// `line` has the same by numbers (`unmarked_into`): one writes C's array, and this a list by value.
 fn unmarked_lists() -> Lists
     ensures { result ≡ lists_of unmarked }
 {

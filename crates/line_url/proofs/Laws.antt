@@ -7,7 +7,8 @@ use native.Mathlib.Omega.{arith}
 use borrow.Author.Tests.{not-true, not-false, lt-ltb, le-ltb, leb-false, eqb-true}
 use lib.Dec.{leb, eqb}
 use lib.ListN.{length}
-use Rattle.text.proofs.Cases.{by_order, both}
+use Rattle.text.proofs.Cases.{by_order}
+use Rattle.std.proofs.lemmas.Bool.{and_parts, or_parts}
 use Rattle.cursor.proofs.Laws.{scan}
 use Rattle.refusal.proofs.Numbers.{given_is}
 use Rattle.text.proofs.Laws.{skip_on, skip_end}
@@ -75,10 +76,6 @@ pub middle : (a c : Bool) → (a || true || c) ≡ true
 middle true c = refl
 middle false c = refl
 
-neither : (a c : Bool) → (a || c) ≡ false → (a ≡ false) × (c ≡ false)
-neither true c h = absurd (true≢false h)
-neither false c h = (refl, h)
-
 -- no stop inside a word
 word_passed : (s : List ℕ) (at : ℕ) → url_end s (skip is_word_byte s at) ≡ url_end s at
 unfolding stops_at
@@ -93,7 +90,7 @@ blank_space : (s : List ℕ) (at : ℕ) → at ≤ length s → skip is_blank s 
 blank_space s at h =
     by_order (skip is_space s at) (skip is_blank s at)
     (λ l. let in-blank = skip_in is_blank s at 0 (skip is_space s at) (skip_from is_space s at) l in
-    let space = (both (is_space (byte_at s (skip is_space s at))) (not (is_break (byte_at s (skip is_space s at)))) in-blank).0 in
+    let space = (and_parts (is_space (byte_at s (skip is_space s at))) (not (is_break (byte_at s (skip is_space s at)))) in-blank).0 in
     absurd (true≢false (sym space ∙ skip_out is_space s at 0 (omega (arith, skip_within is_blank s at h)))))
     (λ l. l)
 
@@ -115,14 +112,14 @@ module _ (s : List ℕ) (at e : ℕ) (inv : url_end s at ≡ e) (stop : ℕ) (wo
 
     module _ (miss : r ≡ false) where
       unmarked : marked_at s stop ≡ false
-      unmarked = (neither (marked_at s stop) (closes_at s stop) (sym test ∙ miss)).0
+      unmarked = (or_parts (marked_at s stop) (closes_at s stop) (sym test ∙ miss)).0
 
       unclosed : closes_at s stop ≡ false
-      unclosed = (neither (marked_at s stop) (closes_at s stop) (sym test ∙ miss)).1
+      unclosed = (or_parts (marked_at s stop) (closes_at s stop) (sym test ∙ miss)).1
 
       past_within : skip is_space s stop < length s
       unfolding closes_at
-      past_within = leb-false (length s) (skip is_space s stop) (neither (leb (length s) (skip is_space s stop)) (is_mark (byte_at s (skip is_space s stop))) unclosed).0
+      past_within = leb-false (length s) (skip is_space s stop) (or_parts (leb (length s) (skip is_space s stop)) (is_mark (byte_at s (skip is_space s stop))) unclosed).0
 
       stop_within : stop < length s
       stop_within = omega (arith, past_within, skip_from is_space s stop)
@@ -131,12 +128,12 @@ module _ (s : List ℕ) (at e : ℕ) (inv : url_end s at ≡ e) (stop : ℕ) (wo
       blank_free : (k : ℕ) → stop ≤ k → k < skip is_blank s stop → stops_at s k ≡ false
       unfolding stops_at closes_at
       blank_free k l u =
-          let blank = both (is_space (byte_at s k)) (not (is_break (byte_at s k))) (skip_in is_blank s stop 0 k l u) in
+          let blank = and_parts (is_space (byte_at s k)) (not (is_break (byte_at s k))) (skip_in is_blank s stop 0 k l u) in
           let plain : is_break (byte_at s k) ≡ false = not-true (is_break (byte_at s k)) blank.1 in
           let same : skip is_space s k ≡ skip is_space s stop = skip_along is_space s stop k (omega (arith, stop_within)) l (omega (arith, blank_space s stop (omega (arith, stop_within)))) in
           let marked : marked_at s k ≡ false =
           by_order stop k
-          (λ after. space_no_mark (byte_at s (k - 1)) (both (is_space (byte_at s (k - 1))) (not (is_break (byte_at s (k - 1)))) (skip_in is_blank s stop 0 (k - 1) (omega arith) (omega arith))).0)
+          (λ after. space_no_mark (byte_at s (k - 1)) (and_parts (is_space (byte_at s (k - 1))) (not (is_break (byte_at s (k - 1)))) (skip_in is_blank s stop 0 (k - 1) (omega arith) (omega arith))).0)
           (λ first. let here : k ≡ stop = omega arith in rw here unmarked) in
           rw (blank.0, marked, plain, same) unclosed
 

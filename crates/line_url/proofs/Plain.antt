@@ -9,7 +9,8 @@ use native.Mathlib.Numerals.{add-one}
 use borrow.Author.Tests.{lt-ltb, le-ltb, eqb-true}
 use lib.Dec.{eqb}
 use lib.ListN.{length, get_or-eq_default}
-use Rattle.text.proofs.Cases.{by_order, both}
+use Rattle.text.proofs.Cases.{by_order}
+use Rattle.std.proofs.lemmas.Bool.{and_parts}
 use Rattle.text.proofs.Laws.{skip_on}
 use Rattle.text.proofs.Places.{byte_lt}
 use Rattle.text.proofs.Reach.{skip_out}
@@ -78,7 +79,7 @@ module _ (s : List ℕ) (at : ℕ) where
   same_close : at < length s → Free s at → (is_space (byte_at s at) && closes_at s (at + 1)) ≡ true → Same s at (at, at + 1)
   unfolding stops_at closes_at
   same_close h free t =
-      let (space, close) = both (is_space (byte_at s at)) (closes_at s (at + 1)) t in
+      let (space, close) = and_parts (is_space (byte_at s at)) (closes_at s (at + 1)) t in
       let closed : closes_at s at ≡ true = rw (skip_on is_space s at 0 h space) at close in
       same_stop h free space (rw (space, closed) (last_of (marked_at s at) (is_break (byte_at s at))))
 
@@ -88,7 +89,7 @@ module _ (s : List ℕ) (at : ℕ) where
   same_mark : at < length s → (is_mark (byte_at s at) && is_space (byte_at s (at + 1))) ≡ true → Same s at (at + 1, at + 1)
   unfolding stops_at goes_on
   same_mark h t =
-      let (mark, space) = both (is_mark (byte_at s at)) (is_space (byte_at s (at + 1))) t in
+      let (mark, space) = and_parts (is_mark (byte_at s at)) (is_space (byte_at s (at + 1))) t in
       let on : url_end s (at + 1) ≡ url_end s at = rw add-one (end_on s at h (rw (mark_no_space (byte_at s at) mark))) in
       let l : at + 1 < length s = byte_lt s (at + 1) is_space refl space in
       let marked : marked_at s (at + 1) ≡ true = rw before mark in

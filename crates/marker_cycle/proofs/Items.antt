@@ -19,7 +19,8 @@ use Rattle.marker_steps.specs.Grammar.{both, either, group, kept_in, warned_in, 
 use Rattle.marker_steps.specs.Marking.{some}
 use Rattle.marker_steps.specs.inner.Steps.{State, emit, state_of, closed_by}
 use Rattle.marker_store.specs.declared.sheet.Sheet.{Sheet}
-use Rattle.text.proofs.Cases.{by_order, both as both_hold}
+use Rattle.text.proofs.Cases.{by_order}
+use Rattle.std.proofs.lemmas.Bool.{and_parts}
 use Rattle.text.proofs.Laws.{skip_end}
 use Rattle.text.proofs.Reach.{skip_from, skip_within}
 use Rattle.text.specs.Class.{is_space, is_word_byte}
@@ -66,7 +67,7 @@ word_sane word s pos e d h = test (spells word s (span p (q - p))) refl h
 
     test : (b : Bool) → spells word s (span p (q - p)) ≡ b → cond b (on q) off ≡ on d → (e < d) × (d ≤ length s)
     test true eq g =
-        let long = eqb-true (q - p) (length word) (both_hold (eqb (q - p) (length word)) (begins word (drop p s)) eq).0 in
+        let long = eqb-true (q - p) (length word) (and_parts (eqb (q - p) (length word)) (begins word (drop p s)) eq).0 in
         let z : q ≡ d = cc in
         (omega (arith, skip_from is_space s e), omega (arith, run_within is_word_byte s p (omega arith)))
     test false eq g = let z : ◌≡◌ {A = ℕ} 0 1 = cc in absurd (omega arith)

@@ -1,4 +1,5 @@
 -- For `read_from` and the doors above: what the code says of the whole marker is what the specification says. Assumes nothing.
+use Rattle.std.proofs.lemmas.Bool.{or_parts}
 use mathlib.Core.Path.{◌≡◌, refl, ap, ◌∙◌}
 use mathlib.Core.Bool.{Bool, true, false, cond, ◌||◌}
 use mathlib.Core.List.{List, [], ◌∷◌}
@@ -29,10 +30,6 @@ use Rattle.refusal.specs.Refusal.{refusal}
 use Rattle.text.specs.Scan.{skip}
 use Rattle.refusal.specs.declared.fault.Fault.TheVariants.{MarkerGoesOn}
 
-neither : (x y : Bool) → x || y ≡ false → (x ≡ false) × (y ≡ false)
-neither true y e = let z : ◌≡◌ {A = ℕ} 0 1 = cc in absurd (omega arith)
-neither false y e = (refl, e)
-
 -- a tree of which nothing is kept has no comparisons and no words
 none_push : (n : ℕ) (v : Verdict) → is_kept v ≡ false → push v n ≡ []
 none_push n (Kept c) e = let z : ◌≡◌ {A = ℕ} 0 1 = cc in absurd (omega arith)
@@ -44,9 +41,9 @@ pub none_words : (n : ℕ) (t : Tree) → some t ≡ false → words_from n t �
 unfolding some words_from
 none_words n (compared v x) e = none_push n v e
 none_words n (both a b) e =
-    rw (none_words n a (neither (some a) (some b) e).0, none_words (n + nk a) b (neither (some a) (some b) e).1, (neither (some a) (some b) e).0)
+    rw (none_words n a (or_parts (some a) (some b) e).0, none_words (n + nk a) b (or_parts (some a) (some b) e).1, (or_parts (some a) (some b) e).0)
 none_words n (either a b) e =
-    rw (none_words n a (neither (some a) (some b) e).0, none_words (n + nk a) b (neither (some a) (some b) e).1, (neither (some a) (some b) e).0)
+    rw (none_words n a (or_parts (some a) (some b) e).0, none_words (n + nk a) b (or_parts (some a) (some b) e).1, (or_parts (some a) (some b) e).0)
 none_words n (group a) e = none_words n a e
 
 -- the chain that a marker is, before its end is looked at

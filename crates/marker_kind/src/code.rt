@@ -9,6 +9,7 @@ use crate::kind::{ExtraKind, Key, Operator, Sort, WarningKind};
 pub struct NoCode(pub usize);
 
 // A sort may hold a kind, so its code is no discriminant.
+// Here and below stand the codes as functions beside discriminants and TryFrom: the definitions of specs/ and the arrays of C go by them, and `sort_of` and its like answer for every number.
 #[tactic(auto, unfolding(crate::specs::Code::sort_code))]
 pub fn sort_code(sort: Sort) -> usize
     ensures { result ≡ sort_code sort }

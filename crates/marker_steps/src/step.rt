@@ -23,6 +23,7 @@ fn kept_in(verdict: Verdict) -> usize
     }
 }
 
+// Two questions of a verdict, and no one function for both: each is the length of a list of its own.
 fn warned_in(verdict: Verdict) -> usize
     ensures { (x : Span) → result ≡ length (warned_in verdict x) }
 {

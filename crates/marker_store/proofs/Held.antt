@@ -1,4 +1,5 @@
 -- For all that reads or fills the arrays: padded arrays of numbers, how long they are, what one element more makes of them, and what is loaded. Assumes nothing.
+use Rattle.std.proofs.lemmas.List.{drop-replicate}
 use mathlib.Core.Path.{◌≡◌, refl, sym, ap₂, ◌∙◌}
 use mathlib.Core.List.{List, [], ◌∷◌, ◌++◌, append_assoc, append-nil}
 use Prim.Native.Nat.{ℕ, zero, suc, ◌+◌, ◌-◌, ◌*◌, ◌<◌, ◌≤◌}
@@ -23,19 +24,13 @@ pad-set n d xs x h =
     let m : n - length xs ≡ suc (n - length (xs ++ (x ∷ []))) = omega (arith, length-append xs (x ∷ [])) in
     rw m (set-append_seam xs d (replicate (n - length (xs ++ (x ∷ []))) d) x ∙ sym (append_assoc xs (x ∷ []) _))
 
--- and several
-drop_replicate : (k m d : ℕ) → drop k (replicate m d) ≡ replicate (m - k) d
-drop_replicate zero m d = let e : m - 0 ≡ m = omega arith in rw e
-drop_replicate (suc k) zero d = let e : 0 - suc k ≡ 0 = omega arith in rw e
-drop_replicate (suc k) (suc m) d = let e : suc m - suc k ≡ m - k = omega arith in rw e (drop_replicate k m d)
-
 pad_sets : (n : ℕ) (xs vs : List ℕ) (i : ℕ) → length xs ≡ i → i + length vs ≤ n → sets (pad n 0 xs) i vs ≡ pad n 0 (xs ++ vs)
 pad_sets n xs vs i e h =
     let room : i + length vs ≤ length (pad n 0 xs) = omega (arith, length-append xs (replicate (n - length xs) 0), length-replicate {A = ℕ} (n - length xs) 0) in
     let less : n - length xs - length vs ≡ n - length (xs ++ vs) = omega (arith, length-append xs vs) in
     let rest : drop (i + length vs) (pad n 0 xs) ≡ replicate (n - length (xs ++ vs)) 0 =
     (rw (← e) (drop-append-add xs (replicate (n - length xs) 0) (length vs)))
-    ∙ drop_replicate (length vs) (n - length xs) 0
+    ∙ drop-replicate (length vs) (n - length xs) 0
     ∙ rw less in
     sets-eq vs (pad n 0 xs) i room ∙ rw (rest, take_at xs (replicate (n - length xs) 0) i e)
 

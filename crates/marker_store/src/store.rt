@@ -10,6 +10,7 @@ use crate::room::{
 };
 use marker_kind::{Comparison, key_code, operator_code, sort_code};
 
+// Here, below and in load.rt: the arrays of numbers are C's, so no derive writes them, and each kind of entry has its own width and places.
 #[tactic(auto, unfolding(crate::specs::Numbers::put_comparison))]
 pub fn store_comparison(comps: &mut Comparisons, n: usize, comparison: Comparison)
     requires { n < max_comparisons }

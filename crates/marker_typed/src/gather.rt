@@ -39,6 +39,7 @@ const NO_WARNING: Warning = Warning {
     span: NO_SPAN,
 };
 
+// (No Default: the filler is a comparison, which has none, and docs/PROMISES.md names this.)
 #[tactic(auto, unfolding(crate::specs::Lists::lists_of))]
 pub fn empty_lists() -> Lists
     ensures { result ≡ lists_of nothing }

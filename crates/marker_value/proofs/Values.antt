@@ -14,7 +14,7 @@ use Rattle.refusal.specs.Refusal.{span, refusal}
 use Rattle.refusal.specs.declared.fault.Fault.TheVariants.{ValueMissing, ExpectedFoundEnd}
 use Rattle.refusal.specs.declared.fault.Refusal.{Refusal}
 use Rattle.refusal.specs.declared.place.Span.{Span}
-use Rattle.text.proofs.Cases.{both}
+use Rattle.std.proofs.lemmas.Bool.{and_parts}
 use Rattle.text.proofs.Reach.{skip_from, skip_within}
 use Rattle.text.specs.Class.{is_quote, is_other, is_token_byte}
 use Rattle.text.specs.Scan.{skip, byte_at}
@@ -32,7 +32,7 @@ module _ (s : List ℕ) (at : Span) where
   tried word found next some hit miss = go (spells word s at) refl
     where
       go : (t : Bool) → spells word s at ≡ t → Sound (cond t found next)
-      go true h = hit (omega (arith, eqb-true at.len (length word) (both (eqb at.len (length word)) (begins word (drop at.start.0 s)) h).0))
+      go true h = hit (omega (arith, eqb-true at.len (length word) (and_parts (eqb at.len (length word)) (begins word (drop at.start.0 s)) h).0))
       go false h = miss
 
   names_sound : Sound (version_name_in s at)

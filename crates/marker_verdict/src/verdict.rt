@@ -83,6 +83,7 @@ fn is_bad_name(name: &[u8]) -> bool
     bad_at(name) < name.len()
 }
 
+// The four in the order in which the definition `kept` takes them: a literal with fields at each call would be longer.
 fn keeps(sort: Sort, key: Key, op: Operator, at: Span) -> Comparison
     ensures { result ≡ kept sort key op at }
 {

@@ -6,7 +6,8 @@ use Prim.Native.Nat.{ℕ, ◌+◌}
 use native.Mathlib.Omega.{arith}
 use borrow.Author.Tests.{ne_eqb, lt-leb}
 use lib.ListN.{get_or}
-use Rattle.text.proofs.Cases.{both, within_true}
+use Rattle.text.proofs.Cases.{within_true}
+use Rattle.std.proofs.lemmas.Bool.{and_parts}
 use Rattle.text.specs.Class.{is_capital, is_separator}
 use Rattle.name.proofs.Laws.{kept}
 use Rattle.name.specs.Normal.{form, merges, normal}
@@ -45,7 +46,7 @@ normal_head [] = refl
 normal_head (b ∷ s) = go (merges (b ∷ s)) refl (normal_head s)
   where
     go : (t : Bool) → merges (b ∷ s) ≡ t → is_separator (get_or (normal s) 0 0) ≡ is_separator (get_or s 0 0) → is_separator (get_or (cond t (normal s) (form b ∷ normal s)) 0 0) ≡ is_separator b
-    go true h head = let w = both (is_separator b) (is_separator (get_or s 0 0)) h in cc
+    go true h head = let w = and_parts (is_separator b) (is_separator (get_or s 0 0)) h in cc
     go false h head = form_separator b
 
 pub idempotent : (s : List ℕ) → normal (normal s) ≡ normal s

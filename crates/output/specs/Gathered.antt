@@ -1,5 +1,5 @@
 -- What is known of text that is gathered on its way out.
-use Rattle.std.specs.Prelude.{◌≡◌, ℕ, ◌+◌, ◌≤◌, Bool, true, false, List, [], ◌++◌, length, ◌⊎◌, refl}
+use Rattle.std.specs.Prelude.{◌≡◌, ℕ, ◌+◌, ◌≤◌, Bool, true, false, List, [], ◌++◌, length, refl}
 use Rattle.std.specs.Coded.{Coded, code_by, coded×, coded_list, coded_ℕ, coded_bool}
 
 -- the bytes that wait to be written out, and whether a write failed
@@ -12,10 +12,6 @@ abbrev pub gathered_code : Coded Gathered
 gathered_code =
     code_by (List ℕ × Bool) (coded× (coded_list coded_ℕ) coded_bool)
     (λ g. (g.bytes, g.broken)) (λ p. record { bytes = p.0; broken = p.1 }) (λ _. refl)
-
--- `len` bytes more find room behind those that wait, or none wait
-abbrev pub Fits : Gathered → ℕ → Type 0
-Fits g len = (length g.bytes + len ≤ 65536) ⊎ (g.bytes ≡ [])
 
 -- behind `more` bytes: those that wait are the last of all that came; none has left while they find room; and all are dropped once a write failed
 pub record Gathers (old : Gathered) (more : List ℕ) (new : Gathered) : Type 0 where

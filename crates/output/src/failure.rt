@@ -39,6 +39,7 @@ impl fmt::Write for Words {
 }
 
 // The text without the ` (os error 28)` that stands behind the system's own words.
+// All of it where no code stands there, and no None: either is what is told.
 fn without_code(text: &[u8]) -> &[u8] {
     match text.iter().rposition(|byte| *byte == b'(') {
         Some(at) => &text[..at.saturating_sub(1)],

@@ -1,5 +1,4 @@
-// Text on its way to standard output. It is gathered in an array, so that one write moves much of it; where the next text finds no room there, what waits is
-// written out first.
+// Text on its way to standard output. It is gathered in an array, so that one write moves much of it; a full array is written out where more comes.
 #![tactic(auto)]
 
 mod digits;
@@ -8,7 +7,7 @@ mod failure;
 ghost use Rattle.std.specs.Prelude.{◌≡◌, ℕ, ◌+◌, ◌/◌, ◌%◌, ◌≤◌, List, [], ◌∷◌, ◌++◌, length, true, false};
 ghost use Rattle.std.specs.Fmt.{digit_glyph};
 ghost use Rattle.output.specs.Digits.{Spells};
-ghost use Rattle.output.specs.Gathered.{Gathered, Fits, Gathers};
+ghost use Rattle.output.specs.Gathered.{Gathered, Gathers};
 
 use digits::{hex_digit, spell};
 pub use failure::tell_failure;
@@ -71,7 +70,9 @@ impl Output {
     }
 
     pub fn waiting(&self) -> &[u8]
-        ensures { result.now ≡ self.now.bytes }
+        ensures bytes { result.now ≡ self.now.bytes }
+        ensures few { length result.now ≤ 65536 }
+        ensures none { self.now.broken ≡ true → result.now ≡ [] }
     {
         &self.buf[..self.waiting]
     }
@@ -94,28 +95,12 @@ impl Output {
         self.waiting = 0;
     }
 
-    // What waits is written out first where so many bytes more find no room behind it.
-    fn make_room(&mut self, len: usize)
-        ensures fits { Fits self.new len }
-        ensures last { (gone : List ℕ) × (self.old.bytes ≡ gone ++ self.new.bytes) }
-        ensures broken { self.old.broken ≡ true → self.new.broken ≡ true }
-        ensures same { length self.old.bytes + len ≤ 65536 → self.new ≡ self.old }
-    {
-        if ROOM - self.waiting < len {
-            self.flush();
-        }
-    }
-
-    // A text that is longer than the array goes out at once.
+    // Behind what waits. Once a write failed it is dropped.
     fn add(&mut self, text: &[u8])
-        requires { Fits self.old (length text.now) }
+        requires { length self.old.bytes + length text.now ≤ 65536 }
         ensures { Gathers self.old text.now self.new }
     {
         if self.broken {
-            return;
-        }
-        if ROOM < text.len() {
-            self.broken = !is_written(self.streams, text);
             return;
         }
         let end = self.waiting + text.len();
@@ -123,11 +108,18 @@ impl Output {
         self.waiting = end;
     }
 
+    // The array is filled before it is written out.
     pub fn text(&mut self, text: &[u8])
         ensures { Gathers self.old text.now self.new }
     {
-        self.make_room(text.len());
-        self.add(text);
+        let mut rest = text;
+        while ROOM - self.waiting < rest.len() {
+            let (front, back) = rest.split_at(ROOM - self.waiting);
+            self.add(front);
+            self.flush();
+            rest = back;
+        }
+        self.add(rest);
     }
 
     pub fn put(&mut self, byte: u8)

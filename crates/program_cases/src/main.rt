@@ -24,6 +24,7 @@ struct Tally {
 }
 
 // An answer in document 01's numbers, which are all 0 where it is good.
+// 0 for no refusal, and no Result: so the stored line has it, with which this is compared.
 #[derive(Clone, Copy, PartialEq, Eq)]
 struct Told {
     number: u8,

@@ -8,7 +8,7 @@ use native.Mathlib.Omega.{arith}
 use borrow.Author.Tests.{lt-ltb, le-leb, ltb-true, leb-true, eqb-true}
 use lib.Dec.{ltb, eqb}
 use lib.ListN.{length, take, length-append}
-use Rattle.text.proofs.Cases.{both}
+use Rattle.std.proofs.lemmas.Bool.{and_parts}
 use Rattle.text.specs.Scan.{byte_at}
 use Rattle.program_check.specs.Rules.{max_words, max_slots, after, height, highest, allowed}
 use Rattle.cursor.specs.Limits.{max_comparisons}
@@ -123,7 +123,7 @@ module _ (count : ℕ) (few : count ≤ max_comparisons) where
   unfolding postfix Below slots word
   steady_tree (leaf k) h rest b st =
       let p = rw (lt-ltb k 64 (omega arith)) at st in
-      (omega (arith, ltb-true h max_slots (both (ltb k count) (ltb h max_slots) p.0).1), p.1)
+      (omega (arith, ltb-true h max_slots (and_parts (ltb k count) (ltb h max_slots) p.0).1), p.1)
   steady_tree leaf_yes h rest b st = (omega (arith, ltb-true h max_slots st.0), st.1)
   steady_tree (and x y) h rest b st =
       let e : h + 1 + 1 - 1 ≡ h + 1 = omega arith in
@@ -189,7 +189,7 @@ module _ (count : ℕ) where
   grow (Push k) b ts h e size a bs = record {
     text = rw e;
     size = omega arith;
-    below = (ltb-true k.0 count (both (ltb k.0 count) (ltb h max_slots) a).0, bs);
+    below = (ltb-true k.0 count (and_parts (ltb k.0 count) (ltb h max_slots) a).0, bs);
   }
   grow And b ts h e size a bs = join_grown and b ts h (λ x y. rw (← e)) (λ x y p q. (p, q)) size (leb-true 2 h a) bs
   grow Or b ts h e size a bs = join_grown or b ts h (λ x y. rw (← e)) (λ x y p q. (p, q)) size (leb-true 2 h a) bs

@@ -7,7 +7,7 @@ use native.Mathlib.Omega.{arith}
 use borrow.Author.Tests.{ltb-true, ltb-false, leb-false, eqb-true, eqb-false}
 use lib.Dec.{ltb, leb, eqb}
 use lib.ListN.{length, take}
-use Rattle.text.proofs.Cases.{both}
+use Rattle.std.proofs.lemmas.Bool.{and_parts}
 use Rattle.refusal.specs.Answer.{Answer, refused, passes}
 use Rattle.text.specs.Scan.{byte_at}
 use Rattle.program_check.specs.Check.{keeps, fault_at, checked_program}
@@ -22,7 +22,7 @@ use Rattle.program_laws.specs.Place.{Breaks, late, strange, above, lacking, crow
 module _ (s : List ℕ) (count i : ℕ) where
   -- a word that is not at fault breaks no rule
   keeps_none : keeps s count i ≡ true → Breaks s count i → ⊥
-  keeps_none k = go (both (ltb i max_words) (allowed count (height 0 (take i s)) (word (byte_at s i))) k)
+  keeps_none k = go (and_parts (ltb i max_words) (allowed count (height 0 (take i s)) (word (byte_at s i))) k)
     where
       go : (ltb i max_words ≡ true) × (allowed count (height 0 (take i s)) (word (byte_at s i)) ≡ true) → Breaks s count i → ⊥
       go p (late l) = omega (arith, ltb-true i max_words p.0)

@@ -9,7 +9,7 @@ use native.Mathlib.Omega.{arith}
 use borrow.Author.Tests.{lt-ltb, le-ltb, le-leb, ltb-true, ltb-false, leb-true, eqb-true}
 use lib.Dec.{ltb, eqb}
 use lib.ListN.{length, take}
-use Rattle.text.proofs.Cases.{both}
+use Rattle.std.proofs.lemmas.Bool.{and_parts}
 use Rattle.text.proofs.Laws.{skip_start}
 use Rattle.text.proofs.Reach.{skip_in, skip_out, skip_is}
 use Rattle.refusal.specs.Answer.{refused, passes}
@@ -71,11 +71,11 @@ module _ (s : List ℕ) (count : ℕ) where
       go false false true p q r h =
           let whole : fault_at s count ≡ length s = omega (arith, fault_within s count, ltb-false (fault_at s count) (length s) q) in
           let good : (i : ℕ) → i < length s → keeps s count i ≡ true = λ i l. before_fault i (omega arith) in
-          let long : max_words < length s → ⊥ = λ l. false≢true (both (ltb max_words max_words) (allowed count (height 0 (take max_words s)) (word (byte_at s max_words))) (good max_words l)).0 in
+          let long : max_words < length s → ⊥ = λ l. false≢true (and_parts (ltb max_words max_words) (allowed count (height 0 (take max_words s)) (word (byte_at s max_words))) (good max_words l)).0 in
           record {
             few = ltb-false max_comparisons count p;
             short = omega arith;
-            each = λ i l. (both (ltb i max_words) (allowed count (height 0 (take i s)) (word (byte_at s i))) (good i l)).1;
+            each = λ i l. (and_parts (ltb i max_words) (allowed count (height 0 (take i s)) (word (byte_at s i))) (good i l)).1;
             one = eqb-true (height 0 s) 1 r;
           }
 
@@ -88,7 +88,7 @@ module _ (count h : ℕ) where
   allowed_known w a e = false≢true (rw e at a)
 
   pub allowed_below : (w : Word) (k : ComparisonNumber) → allowed count h w ≡ true → w ≡ Push k → k.0 < count
-  allowed_below w k a e = ltb-true k.0 count (both (ltb k.0 count) (ltb h max_slots) (rw e at a)).0
+  allowed_below w k a e = ltb-true k.0 count (and_parts (ltb k.0 count) (ltb h max_slots) (rw e at a)).0
 
   pub allowed_finds : (w : Word) → allowed count h w ≡ true → is_operator w ≡ true → 2 ≤ h
   allowed_finds (Push k) a o = absurd (false≢true o)
@@ -98,14 +98,14 @@ module _ (count h : ℕ) where
   allowed_finds Unknown a o = absurd (false≢true o)
 
   pub allowed_room : (w : Word) → allowed count h w ≡ true → is_operator w ≡ false → h < max_slots
-  allowed_room (Push k) a o = ltb-true h max_slots (both (ltb k.0 count) (ltb h max_slots) a).1
+  allowed_room (Push k) a o = ltb-true h max_slots (and_parts (ltb k.0 count) (ltb h max_slots) a).1
   allowed_room And a o = absurd (true≢false o)
   allowed_room Or a o = absurd (true≢false o)
   allowed_room Yes a o = ltb-true h max_slots a
   allowed_room Unknown a o = absurd (false≢true a)
 
   allowed_stand : (w : Word) → allowed count h w ≡ true → h ≤ max_slots → after h w ≤ max_slots
-  allowed_stand (Push k) a l = omega (arith, ltb-true h max_slots (both (ltb k.0 count) (ltb h max_slots) a).1)
+  allowed_stand (Push k) a l = omega (arith, ltb-true h max_slots (and_parts (ltb k.0 count) (ltb h max_slots) a).1)
   allowed_stand And a l = omega arith
   allowed_stand Or a l = omega arith
   allowed_stand Yes a l = omega (arith, ltb-true h max_slots a)

@@ -7,7 +7,7 @@ use native.Mathlib.Omega.{arith}
 use borrow.Author.Tests.{lt-ltb, leb-true}
 use lib.Dec.{ltb}
 use lib.ListN.{length, take, drop, take-append-drop}
-use Rattle.text.proofs.Cases.{both}
+use Rattle.std.proofs.lemmas.Bool.{and_parts}
 use Rattle.refusal.specs.Answer.{passes}
 use Rattle.program_check.specs.Check.{checked_program}
 use Rattle.program_check.specs.Rules.{max_slots, after, height, allowed}
@@ -40,7 +40,7 @@ module _ {A : Type 0} (count : ℕ) (m : Sense A) where
   two f (y ∷ (x ∷ st)) l = (f x y ∷ st, refl, omega arith)
 
   obeyed_stands : (w : Word) (st : List A) → allowed count (length st) w ≡ true → (us : List A) × (obeyed m w st ≡ stands us) × (length us ≡ after (length st) w)
-  obeyed_stands (Push k) st a = let r = (both (ltb k.0 count) (ltb (length st) max_slots) a).1 in (m.number k.0 ∷ st, rw r, omega arith)
+  obeyed_stands (Push k) st a = let r = (and_parts (ltb k.0 count) (ltb (length st) max_slots) a).1 in (m.number k.0 ∷ st, rw r, omega arith)
   obeyed_stands And st a = two m.both st (leb-true 2 (length st) a)
   obeyed_stands Or st a = two m.either st (leb-true 2 (length st) a)
   obeyed_stands Yes st a = (m.yes ∷ st, rw a, omega arith)

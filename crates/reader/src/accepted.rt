@@ -62,6 +62,7 @@ fn quoted(line: &[u8], literal: Span) -> &[u8] {
     between(line, start.saturating_sub(1), end.saturating_add(1))
 }
 
+// Comparisons, and warnings below: two rows of text in a loop each; one function for both would take the rows as closures, and be no plainer.
 fn put_comparisons(out: &mut Output, line: &[u8], parts: &Parts) {
     for i in 0..parts.figures[LINE_COMPARISONS].min(Cursor::MAX_COMPARISONS) {
         let one = load_comparison(&parts.sheet.comparisons, i);
@@ -90,7 +91,7 @@ fn put_warnings(out: &mut Output, line: &[u8], parts: &Parts) {
     }
 }
 
-// The kinds are 1 to 5.
+// The kinds are 1 to 5: a number, as `load_warning` gives it.
 fn meaning(kind: usize) -> &'static str {
     match WarningKind::try_from(kind) {
         Ok(WarningKind::BadVersion) =>

@@ -14,6 +14,7 @@ pub struct Text<'a> {
     pub is_cut: bool,
 }
 
+// Five kinds, and no Option: an unknown option is told, and ends the run.
 #[derive(Clone, Copy)]
 pub enum Argument {
     Plain,

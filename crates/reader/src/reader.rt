@@ -59,6 +59,7 @@ impl Reader {
         }
     }
 
+    // Here and below: what is read differs, and how it is opened; the reading is one generic `read`.
     pub fn read_input<R: Input>(&mut self, rt: &R, name: &[u8]) {
         let mut from = rt.reader();
         self.read(&mut from, name);

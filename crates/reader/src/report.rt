@@ -12,6 +12,7 @@ use std::io;
 use std::io::IsTerminal;
 
 // How it is told: as rows for other tools, and with the file's name where there are several.
+// Two bools that the methods below ask: two styles are no more, and a trait for them would be longer.
 #[derive(Clone, Copy)]
 pub struct Style {
     pub plain: bool,

@@ -1,7 +1,7 @@
 // Places in a line, and numbers in a program: two types, so that one cannot be taken for the other.
 
 // A place in the line, in bytes from its start.
-#[derive(Clone, Copy, Debug, PartialEq, Eq, PartialOrd, Ord, Default)]
+#[derive(Clone, Copy, Debug, PartialEq, Eq, Default)]
 pub struct Offset(pub usize);
 
 // A comparison's number in a program.

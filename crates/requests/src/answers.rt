@@ -18,7 +18,7 @@ pub fn put_bad(out: &mut Output) {
     out.text(b"bad request");
 }
 
-// A number of 0 is no refusal.
+// A number of 0 is no refusal: so C is told.
 fn put_verdict(out: &mut Output, number: u8, start: usize, len: usize) {
     if number == 0 {
         out.text(b"ok");

@@ -1,5 +1,6 @@
 -- A definition that goes by tests, `cond t x y`, against code that made the tests: each law takes one `cond` off the goal, and `search cases`
 -- goes through them all. The code's value `r` need not be the definition's: `r ≡ t`, found by search, says that it is the same. Assumes nothing.
+use Rattle.std.proofs.lemmas.Bool.{and_parts}
 use mathlib.Core.Path.{◌≡◌, refl}
 use mathlib.Core.Bool.{Bool, true, false, cond, ◌&&◌, false≢true}
 use Prim.Native.Nat.{ℕ, ◌≤◌, ◌<◌}
@@ -40,12 +41,7 @@ by_order {P} a b less more = go (ltb a b) refl
     go true e = less (ltb-true a b e)
     go false e = more (ltb-false a b e)
 
--- what a test that held says
-pub both : (t u : Bool) → (t && u) ≡ true → (t ≡ true) × (u ≡ true)
-both true u h = (refl, h)
-both false u h = absurd (false≢true h)
-
 pub within_true : (lo hi b : ℕ) → within lo hi b ≡ true → (lo ≤ b) × (b ≤ hi)
 within_true lo hi b h =
-    let p = both (leb lo b) (leb b hi) h in
+    let p = and_parts (leb lo b) (leb b hi) h in
     (leb-true lo b p.0, leb-true b hi p.1)

@@ -29,10 +29,7 @@ pub skip_start : {A : Type 0} (p : A → Bool) (s : List A) → skip p s 0 ≡ r
 unfolding skip
 skip_start p s = zero-add (run p s)
 
--- A scan's loop: at `at`, begun at `start`, the run of class p still ends where it did; what is left of the line falls.
-abbrev pub Along : {A : Type 0} → (A → Bool) → List A → ℕ → ℕ → Type 0
-Along p s start at = skip p s at ≡ skip p s start
-
+-- what is left of the line, which falls in a loop over it
 abbrev pub left : List ℕ → ℕ → ℕ → ℕ
 left s start at = length s - at
 

@@ -10,7 +10,7 @@ use lib.ListN.{length, take, drop, length-drop}
 use lib.Seq.{take_all}
 use Rattle.std.proofs.lemmas.List.{drop_min}
 use Rattle.std.specs.List.{list_all, zip}
-use Rattle.text.proofs.Cases.{both}
+use Rattle.std.proofs.lemmas.Bool.{and_parts}
 use Rattle.text.proofs.Laws.{runs}
 use Rattle.text.specs.Word.{begins_by, begins, spells}
 use Rattle.refusal.specs.declared.place.Span.{Span}
@@ -50,7 +50,7 @@ unfolding begins_by
 begins_word [] s h = refl
 begins_word (a ∷ w) [] h = absurd (false≢true h)
 begins_word (a ∷ w) (b ∷ s) h =
-    let (first, rest) = both (eqb b a) (begins w s) h in
+    let (first, rest) = and_parts (eqb b a) (begins w s) h in
     ap₂ ◌∷◌ (eqb-true b a first) (begins_word w s rest)
 
 pub word_begins : (w s : List ℕ) → take (length w) s ≡ w → begins w s ≡ true
@@ -63,7 +63,7 @@ word_begins (a ∷ w) (b ∷ s) h = rw (eq-eqb b a (head-eq_of_cons-eq h)) (word
 module _ (w s : List ℕ) (span : Span) where
   pub spells_bytes : spells w s span ≡ true → take span.len (drop span.start.0 s) ≡ w
   spells_bytes h =
-      let (long, there) = both (eqb span.len (length w)) (begins w (drop span.start.0 s)) h in
+      let (long, there) = and_parts (eqb span.len (length w)) (begins w (drop span.start.0 s)) h in
       rw (eqb-true span.len (length w) long) (begins_word w (drop span.start.0 s) there)
 
   pub bytes_spells : span.len ≡ length w → take span.len (drop span.start.0 s) ≡ w → spells w s span ≡ true
@@ -82,4 +82,4 @@ module _ (alike : ℕ → ℕ → Bool) where
   unfolding begins_by
   begins_fits [] s h = zero-le
   begins_fits (a ∷ w) [] h = absurd (false≢true h)
-  begins_fits (a ∷ w) (b ∷ s) h = suc-le-suc (begins_fits w s (both (alike b a) (begins_by alike w s) h).1)
+  begins_fits (a ∷ w) (b ∷ s) h = suc-le-suc (begins_fits w s (and_parts (alike b a) (begins_by alike w s) h).1)

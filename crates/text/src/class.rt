@@ -87,6 +87,7 @@ pub fn is_operator_word_byte(b: u8) -> bool
     !(is_space(b) || is_quote(b))
 }
 
+// Two classes, each named by the documents: a list without a bracket goes up to `,` or `;`, one in parentheses up to `,` or `)`.
 pub fn is_bare_byte(b: u8) -> bool
     ensures { result ≡ is_bare_byte b }
 {

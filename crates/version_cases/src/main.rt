@@ -7,6 +7,7 @@ use std::io;
 const LIST: usize = 65536;
 
 // A text offered as what the letter says: a version, a pattern, and else a specifier.
+// (The letter stands in the stored list.)
 fn accepts(letter: u8, text: &[u8]) -> bool {
     match letter {
         b'v' => version_entry::version(text),

@@ -8,7 +8,8 @@ use Prim.Native.Char.{code}
 use native.Mathlib.Omega.{arith}
 use borrow.Author.Tests.{eqb-true, eqb-false}
 use lib.Dec.{eqb}
-use Rattle.text.proofs.Cases.{both, within_true}
+use Rattle.text.proofs.Cases.{within_true}
+use Rattle.std.proofs.lemmas.Bool.{and_parts, or_cases}
 use Rattle.text.specs.Class.{is_space, is_digit, is_separator, within, small}
 use Rattle.version_language.specs.Appendix.{all}
 
@@ -24,10 +25,10 @@ lettered F b = listed F (small b)
 -- what holds of each of them holds of one of them
 pub among : (L : List ℕ) (q : ℕ → Bool) → all q L ≡ true → (b : ℕ) → listed L b ≡ true → q b ≡ true
 among [] q h b m = absurd (false≢true m)
-among (c ∷ L) q h b m = go (eqb b c) refl m (among L q (both (q c) (all q L) h).1 b)
+among (c ∷ L) q h b m = go (eqb b c) refl m (among L q (and_parts (q c) (all q L) h).1 b)
   where
     go : (t : Bool) → eqb b c ≡ t → (t || listed L b) ≡ true → (listed L b ≡ true → q b ≡ true) → q b ≡ true
-    go true e m rest = rw (eqb-true b c e) (both (q c) (all q L) h).0
+    go true e m rest = rw (eqb-true b c e) (and_parts (q c) (all q L) h).0
     go false e m rest = rest m
 
 -- a test of every number below a bound
@@ -37,10 +38,10 @@ below (suc n) q = q n && below n q
 
 below_true : (n : ℕ) (q : ℕ → Bool) → below n q ≡ true → (b : ℕ) → b < n → q b ≡ true
 below_true zero q h b l = absurd (omega arith)
-below_true (suc n) q h b l = go (eqb b n) refl (below_true n q (both (q n) (below n q) h).1 b)
+below_true (suc n) q h b l = go (eqb b n) refl (below_true n q (and_parts (q n) (below n q) h).1 b)
   where
     go : (t : Bool) → eqb b n ≡ t → (b < n → q b ≡ true) → q b ≡ true
-    go true e rest = rw (eqb-true b n e) (both (q n) (below n q) h).0
+    go true e rest = rw (eqb-true b n e) (and_parts (q n) (below n q) h).0
     go false e rest =
         let other : b ≡ n → ⊥ = eqb-false b n e in
         rest (omega arith)
@@ -49,29 +50,25 @@ below_true (suc n) q h b l = go (eqb b n) refl (below_true n q (both (q n) (belo
 abbrev pub Ascii : (ℕ → Bool) → Type 0
 Ascii p = (b : ℕ) → p b ≡ true → b < 128
 
-either : (t u : Bool) → (t || u) ≡ true → (t ≡ true) ⊎ (u ≡ true)
-either true u h = inl refl
-either false u h = inr h
-
 pub digit_ascii : Ascii is_digit
 digit_ascii b h = omega (arith, within_true (code "0") (code "9") b h)
 
 pub space_ascii : Ascii is_space
-space_ascii b h = go (either (within 9 13 b) (eqb b 32) h)
+space_ascii b h = go (or_cases (within 9 13 b) (eqb b 32) h)
   where
     go : (within 9 13 b ≡ true) ⊎ (eqb b 32 ≡ true) → b < 128
     go (inl h) = omega (arith, within_true 9 13 b h)
     go (inr h) = omega (arith, eqb-true b 32 h)
 
 pub separator_ascii : Ascii is_separator
-separator_ascii b h = go (either (eqb b (code ".") || eqb b (code "-")) (eqb b (code "_")) h)
+separator_ascii b h = go (or_cases (eqb b (code ".") || eqb b (code "-")) (eqb b (code "_")) h)
   where
     two : (eqb b (code ".") ≡ true) ⊎ (eqb b (code "-") ≡ true) → b < 128
     two (inl h) = omega (arith, eqb-true b (code ".") h)
     two (inr h) = omega (arith, eqb-true b (code "-") h)
 
     go : ((eqb b (code ".") || eqb b (code "-")) ≡ true) ⊎ (eqb b (code "_") ≡ true) → b < 128
-    go (inl h) = two (either (eqb b (code ".")) (eqb b (code "-")) h)
+    go (inl h) = two (or_cases (eqb b (code ".")) (eqb b (code "-")) h)
     go (inr h) = omega (arith, eqb-true b (code "_") h)
 
 -- one class is part of another, or has no byte in common with it: tried on each byte

@@ -10,7 +10,7 @@ use borrow.Author.Tests.{lt-ltb, eqb-true, eq-eqb, not-true}
 use lib.Dec.{ltb, eqb}
 use lib.ListN.{length, drop, length-append, length-drop}
 use lib.Seq.{drop_at}
-use Rattle.text.proofs.Cases.{both}
+use Rattle.std.proofs.lemmas.Bool.{and_parts}
 use Rattle.text.specs.Class.{is_space, is_digit, is_alnum, is_separator}
 use Rattle.text.specs.Scan.{run, skip, byte_at}
 use Rattle.text.specs.Word.{bytes, begins, begins_by}
@@ -33,7 +33,7 @@ use Rattle.version.specs.Rules.{is_version, is_pattern}
 -- whitespace, or the end, is of no other class
 spaces_not : (p : ℕ → Bool) → p 0 ≡ false → Inside is_space (λ b. not (p b)) → (w : List ℕ) → matches spaces w → p (byte_at w 0) ≡ false
 spaces_not p end tried [] k = end
-spaces_not p end tried (b ∷ w) k = not-true (p b) (inside is_space (λ b. not (p b)) space_ascii tried b (both (is_space b) (all is_space w) k).0)
+spaces_not p end tried (b ∷ w) k = not-true (p b) (inside is_space (λ b. not (p b)) space_ascii tried b (and_parts (is_space b) (all is_space w) k).0)
 
 -- the local part
 local_none : (v : List ℕ) → eqb (byte_at v 0) (code "+") ≡ false → local_len v ≡ 0

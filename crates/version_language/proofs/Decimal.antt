@@ -7,7 +7,7 @@ use Prim.Native.Char.{code}
 use native.Mathlib.Omega.{arith}
 use borrow.Author.Tests.{ltb-true, ltb-false, le-leb}
 use lib.Dec.{ltb}
-use Rattle.text.proofs.Cases.{both}
+use Rattle.std.proofs.lemmas.Bool.{and_parts}
 use Rattle.text.specs.Class.{is_digit}
 use Rattle.version_language.specs.Appendix.{all}
 use Rattle.version_number.specs.Number.{digit_value, value_from, value}
@@ -17,7 +17,7 @@ value_from_snoc : (v : ℕ) (s : List ℕ) (b : ℕ) → all is_digit s ≡ true
 unfolding value_from
 value_from_snoc v [] b h d = rw d
 value_from_snoc v (c ∷ s) b h d =
-    let (first, rest) = both (is_digit c) (all is_digit s) h in
+    let (first, rest) = and_parts (is_digit c) (all is_digit s) h in
     rw first (value_from_snoc (10 * v + digit_value c) s b rest d)
 
 pub value_snoc : (s : List ℕ) (b : ℕ) → all is_digit s ≡ true → is_digit b ≡ true → value (s ++ (b ∷ [])) ≡ 10 * value s + digit_value b
@@ -41,7 +41,7 @@ digit_is d h = rw (le-leb 48 (48 + d) (omega arith), le-leb (48 + d) 57 (omega a
 all_snoc : (s : List ℕ) (b : ℕ) → all is_digit s ≡ true → is_digit b ≡ true → all is_digit (s ++ (b ∷ [])) ≡ true
 all_snoc [] b h d = rw d
 all_snoc (c ∷ s) b h d =
-    let (first, rest) = both (is_digit c) (all is_digit s) h in
+    let (first, rest) = and_parts (is_digit c) (all is_digit s) h in
     rw first (all_snoc s b rest d)
 
 digits_in_lem : (k n : ℕ) → n < k → (all is_digit (digits_in k n) ≡ true) × (value (digits_in k n) ≡ n)

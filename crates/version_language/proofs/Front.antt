@@ -8,7 +8,7 @@ use Prim.Native.Char.{code}
 use native.Mathlib.Omega.{arith}
 use borrow.Author.Tests.{eqb-true, not-true}
 use lib.ListN.{length, drop}
-use Rattle.text.proofs.Cases.{both}
+use Rattle.std.proofs.lemmas.Bool.{and_parts}
 use Rattle.text.specs.Class.{is_space, is_digit, is_separator, small}
 use Rattle.text.specs.Scan.{byte_at}
 use Rattle.text.specs.Word.{bytes}
@@ -87,7 +87,7 @@ separators = bytes ".-_"
 
 spaces_first : (v : List ℕ) → matches spaces v → lettered locals (byte_at v 0) ≡ true
 spaces_first [] h = refl
-spaces_first (b ∷ v) h = inside is_space (lettered locals) space_ascii refl b (both (is_space b) (all is_space v) h).0
+spaces_first (b ∷ v) h = inside is_space (lettered locals) space_ascii refl b (and_parts (is_space b) (all is_space v) h).0
 
 dev_first : (v : List ℕ) → matches after_dev v → lettered locals (byte_at v 0) ≡ true
 dev_first v m = go (there_or_not local spaces v m)

@@ -11,7 +11,7 @@ use borrow.Author.Tests.{eqb-true, eq-eqb, ltb-true, ltb-false}
 use lib.Dec.{ltb, eqb}
 use lib.ListN.{length, take, drop, take-append-drop}
 use lib.Seq.{slice}
-use Rattle.text.proofs.Cases.{both}
+use Rattle.std.proofs.lemmas.Bool.{and_parts}
 use Rattle.text.specs.Class.{is_space, is_digit, is_separator, small}
 use Rattle.text.specs.Word.{bytes}
 use Rattle.version_language.proofs.Bytes.{listed}
@@ -64,7 +64,7 @@ other p out b h = go (eqb (code "+") b) refl
 pub class_unsigned : (p : ℕ → Bool) → p (code "+") ≡ false → (s : List ℕ) → all p s ≡ true → signed s ≡ false
 class_unsigned p out [] h = refl
 class_unsigned p out (b ∷ s) h =
-    let (first, rest) = both (p b) (all p s) h in
+    let (first, rest) = and_parts (p b) (all p s) h in
     rw (other p out b first) (class_unsigned p out s rest)
 
 small_unsigned : (s : List ℕ) → signed (map small s) ≡ false → signed s ≡ false
@@ -105,7 +105,7 @@ spaces_free : Free spaces
 spaces_free s h = class_unsigned is_space refl s h
 
 number_free : Free number
-number_free s h = class_unsigned is_digit refl s (both (ltb 0 (length s)) (all is_digit s) (both (ltb 0 (length s) && all is_digit s) (bounded s) h).0).1
+number_free s h = class_unsigned is_digit refl s (and_parts (ltb 0 (length s)) (all is_digit s) (and_parts (ltb 0 (length s) && all is_digit s) (bounded s) h).0).1
 
 -- a version without a local part
 abbrev plain : Regex
@@ -128,7 +128,7 @@ plain_free =
 plain_matches : (s : List ℕ) → is_version s ≡ true → has_local (layout s) ≡ false → matches plain s
 unfolding is_version layout
 plain_matches s h lacks =
-    let (there, end) = both (has_release (layout s)) (ends_at s (layout s).local) h in
+    let (there, end) = and_parts (has_release (layout s)) (ends_at s (layout s).local) h in
     let same : (layout s).local ≡ (layout s).dev = omega (arith, ltb-false (layout s).dev (layout s).local lacks) in
     released_matches (opt pre then opt post then opt dev then spaces) s there
     (parts_matches spaces s (layout s).release (ending s (layout s).dev (rw same at end)))

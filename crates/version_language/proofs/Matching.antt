@@ -8,7 +8,7 @@ use Prim.Native.Char.{code}
 use native.Mathlib.Omega.{arith}
 use lib.ListN.{length, take, drop, take-append-drop}
 use lib.Seq.{take-add}
-use Rattle.text.proofs.Cases.{both}
+use Rattle.std.proofs.lemmas.Bool.{and_parts}
 use Rattle.text.specs.Class.{is_digit}
 use Rattle.text.specs.Scan.{run, byte_at}
 use Rattle.version_language.specs.Appendix.{Regex, matches, one, opt, ◌then◌, all}
@@ -72,7 +72,7 @@ unfolding run
 all_run p s zero l h = zero-le
 all_run p [] (suc n) l h = l
 all_run p (b ∷ s) (suc n) l h =
-    let (first, rest) = both (p b) (all p (take n s)) h in
+    let (first, rest) = and_parts (p b) (all p (take n s)) h in
     rw first (suc-le-suc (all_run p s n (omega arith) rest))
 
 -- three tests that held
@@ -83,5 +83,5 @@ every t u v a b c = rw (a, b, c)
 pub all_of : (p q : ℕ → Bool) → ((b : ℕ) → p b ≡ true → q b ≡ true) → (s : List ℕ) → all p s ≡ true → all q s ≡ true
 all_of p q wider [] h = refl
 all_of p q wider (b ∷ s) h =
-    let (first, rest) = both (p b) (all p s) h in
+    let (first, rest) = and_parts (p b) (all p s) h in
     rw (wider b first) (all_of p q wider s rest)

@@ -1,5 +1,6 @@
 -- What `read_layout` finds: between two of its places stands a text of that part's expression of the Appendix, and together they are the whole text.
 -- Assumes nothing.
+use Rattle.std.proofs.lemmas.List.{drop-take}
 use mathlib.Core.Path.{◌≡◌, refl, sym}
 use mathlib.Core.Bool.{true}
 use mathlib.Core.List.{List, [], ◌∷◌, ◌++◌}
@@ -24,12 +25,6 @@ use Rattle.version_parts.specs.Release.{v_len, epoch_len, is_dot}
 use Rattle.version.specs.Layout.{layout, has_release}
 use Rattle.version.specs.declared.layout.Layout.{Layout}
 
--- a part cut first or dropped first
-pub drop_take : (f m : ℕ) (l : List ℕ) → drop f (take (f + m) l) ≡ take m (drop f l)
-drop_take zero m l = let e : 0 + m ≡ m = omega arith in rw e
-drop_take (suc f) m [] = let e : suc f + m ≡ suc (f + m) = omega arith in rw e (sym (take-nil m))
-drop_take (suc f) m (x ∷ l) = let e : suc f + m ≡ suc (f + m) = omega arith in rw e (drop_take f m l)
-
 -- what stands between two places
 pub record Held (s : List ℕ) (l : Layout) : Type 0 where
   pub before : matches (spaces then opt (word "v")) (slice 0 l.start s)
@@ -43,7 +38,7 @@ pub record Held (s : List ℕ) (l : Layout) : Type 0 where
 
 -- the part in front at a place
 held : (len : List ℕ → ℕ) (r : Regex) (s : List ℕ) (at : ℕ) → matches r (take (len (drop at s)) (drop at s)) → matches r (slice at (past len s at) s)
-held len r s at m = rw (drop_take at (len (drop at s)) s) m
+held len r s at m = rw (drop-take at (len (drop at s)) s) m
 
 pub layout_holds : (s : List ℕ) → has_release (layout s) ≡ true → Held s (layout s)
 unfolding layout skip
@@ -61,7 +56,7 @@ layout_holds s h = record {
 
 -- what stands behind a place is a part and what stands behind the part
 joined : (len : List ℕ → ℕ) (s : List ℕ) (at to : ℕ) → to ≡ past len s at → slice at to s ++ drop to s ≡ drop at s
-joined len s at to e = rw (e, drop_take at (len (drop at s)) s, ← drop-drop (len (drop at s)) at s) (take-append-drop (len (drop at s)) (drop at s))
+joined len s at to e = rw (e, drop-take at (len (drop at s)) s, ← drop-drop (len (drop at s)) at s) (take-append-drop (len (drop at s)) (drop at s))
 
 module _ (s : List ℕ) (start epoch first release pre post dev local : ℕ) (a : epoch ≡ past epoch_len s start) (b : first ≡ past number_len s epoch) (c : release ≡ past (more is_dot number_len) s first) (d : pre ≡ past pre_len s release) (e : post ≡ past post_len s pre) (f : dev ≡ past dev_len s post) (g : local ≡ past local_len s dev) where
   whole_of : slice 0 start s ++ (slice start epoch s ++ (slice epoch first s ++ (slice first release s ++ (slice release pre s ++ (slice pre post s ++ (slice post dev s ++ (slice dev local s ++ drop local s))))))) ≡ s

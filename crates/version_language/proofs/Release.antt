@@ -11,7 +11,7 @@ use borrow.Author.Tests.{lt-ltb, eqb-true, eq-eqb, not-true}
 use lib.Dec.{ltb, eqb}
 use lib.ListN.{length, drop, length-append}
 use lib.Seq.{get_or-append-add}
-use Rattle.text.proofs.Cases.{both}
+use Rattle.std.proofs.lemmas.Bool.{and_parts}
 use Rattle.text.specs.Class.{is_space, is_digit, small}
 use Rattle.text.specs.Scan.{run, skip, byte_at}
 use Rattle.version_language.proofs.Bytes.{Ascii, Apart, digit_ascii, space_ascii, inside, apart}
@@ -105,7 +105,7 @@ module _ {L : Regex} (rest : EndsFirst L) where
     -- or white space before it
     pub begun_not : Apart p is_space → (s : List ℕ) → matches (begun L) s → p (byte_at s 0) ≡ false
     begun_not no-space s ([], w, e, space, m) = rw e (v_not w m)
-    begun_not no-space s (b ∷ u, w, e, space, m) = rw e (apart p is_space ascii no-space b (both (is_space b) (all is_space u) space).0)
+    begun_not no-space s (b ∷ u, w, e, space, m) = rw e (apart p is_space ascii no-space b (and_parts (is_space b) (all is_space u) space).0)
 
   spaces_cut : (s : List ℕ) → matches (begun L) s → Cut (run is_space s) (from_v L) s
   spaces_cut s (u, w, e, space, m) = rw e (cut_seam (run is_space (u ++ w)) (from_v L) u w (run_whole is_space u w space (v_not is_space space_ascii refl refl w m)) m)

@@ -11,7 +11,7 @@ use borrow.Author.Tests.{ltb-true, lt-ltb, eqb-true}
 use lib.Dec.{ltb, eqb}
 use lib.ListN.{length, take, drop, length-drop, take-append-drop}
 use lib.Seq.{take-add, drop-drop, get_or-drop, length-take-le, take_all}
-use Rattle.text.proofs.Cases.{both}
+use Rattle.std.proofs.lemmas.Bool.{and_parts}
 use Rattle.text.proofs.Reach.{run_le}
 use Rattle.text.proofs.Words.{begins_word}
 use Rattle.text.specs.Class.{is_space, is_digit, is_alnum, is_letter, is_separator, small}
@@ -58,7 +58,7 @@ unfolding begins_by
 says_front [] s h = refl
 says_front (c ∷ w) [] h = absurd (false≢true h)
 says_front (c ∷ w) (b ∷ s) h =
-    let (first, rest) = both (eqb (small b) c) (says w s) h in
+    let (first, rest) = and_parts (eqb (small b) c) (says w s) h in
     λ i. eqb-true (small b) c first i ∷ says_front w s rest i
 
 -- the word that is found is one of the list
@@ -126,7 +126,7 @@ post_front s there = go (eqb (byte_at s 0) (code "-") && ltb 0 n) refl there
 
     go : (t : Bool) → (eqb (byte_at s 0) (code "-") && ltb 0 n) ≡ t → 0 < cond t (1 + n) (part_len post_words s) → matches post (take (cond t (1 + n) (part_len post_words s)) s)
     go true e h =
-        let (first, rest) = both (eqb (byte_at s 0) (code "-")) (ltb 0 n) e in
+        let (first, rest) = and_parts (eqb (byte_at s 0) (code "-")) (ltb 0 n) e in
         inl (joined_front (sign "-") number s 1 n (one_front (λ b. eqb b (code "-")) refl s first) (number_front (drop 1 s) (ltb-true 0 n rest)))
     go false e h = inr (part_front post_word post_words post_word_lem s h)
 
@@ -155,7 +155,7 @@ module _ (joins : ℕ → Bool) (end : joins 0 ≡ false) (r : Regex) (item : Li
 
       go : (t : Bool) → (joins (byte_at s 0) && ltb 0 n) ≡ t → matches (many (one joins then r)) (take m (drop (1 + n) s)) → matches (many (one joins then r)) (take (cond t (1 + n + m) 0) s)
       go true e rest =
-          let (first, next) = both (joins (byte_at s 0)) (ltb 0 n) e in
+          let (first, next) = and_parts (joins (byte_at s 0)) (ltb 0 n) e in
           some (take (1 + n) s) (take m (drop (1 + n) s)) (take-add (1 + n) m s)
           (joined_front (one joins) r s 1 n (one_front joins end s first) (there (drop 1 s) (ltb-true 0 n next))) rest
       go false e rest = none
@@ -176,8 +176,8 @@ segment_front s there = go (ltb (run is_digit s) (run is_alnum s)) refl there
         lettered true digits = absurd (omega (arith, ltb-true (run is_digit s) n e, all_run is_digit s n (run_le is_alnum s) digits))
         lettered false digits = refl
     go false e h =
-        let (front, small-enough) = both (ltb 0 (length u) && all is_digit u) (bounded u) (number_front s h) in
-        let (there, digits) = both (ltb 0 (length u)) (all is_digit u) front in
+        let (front, small-enough) = and_parts (ltb 0 (length u) && all is_digit u) (bounded u) (number_front s h) in
+        let (there, digits) = and_parts (ltb 0 (length u)) (all is_digit u) front in
         every _ _ _ there (all_of is_digit is_alnum (λ b d. rw d (or-true (is_letter b))) u digits) (rw digits small-enough)
       where
         u : List ℕ
@@ -196,7 +196,7 @@ local_front s there = go (eqb (byte_at s 0) (code "+") && ltb 0 n) refl there
 
     go : (t : Bool) → (eqb (byte_at s 0) (code "+") && ltb 0 n) ≡ t → 0 < cond t (1 + n + m) 0 → matches local (take (cond t (1 + n + m) 0) s)
     go true e h =
-        let (first, next) = both (eqb (byte_at s 0) (code "+")) (ltb 0 n) e in
+        let (first, next) = and_parts (eqb (byte_at s 0) (code "+")) (ltb 0 n) e in
         rw (add_assoc 1 n m) (joined_front (sign "+") (segment then many (separator then segment)) s 1 (n + m) (one_front (λ b. eqb b (code "+")) refl s first)
         (joined_front segment (many (separator then segment)) (drop 1 s) n m (segment_front (drop 1 s) (ltb-true 0 n next))
         (rw (drop-drop n 1 s) (more_front is_separator refl segment segment_len segment_front (length (drop (1 + n) s)) (drop (1 + n) s)))))
@@ -224,7 +224,7 @@ epoch_front s = go (ltb 0 n && eqb (byte_at s n) (code "!")) refl
 
     go : (t : Bool) → (ltb 0 n && eqb (byte_at s n) (code "!")) ≡ t → matches (opt (number then sign "!")) (take (cond t (n + 1) 0) s)
     go true e =
-        let (first, next) = both (ltb 0 n) (eqb (byte_at s n) (code "!")) e in
+        let (first, next) = and_parts (ltb 0 n) (eqb (byte_at s n) (code "!")) e in
         inr (joined_front number (sign "!") s n 1 (number_front s (ltb-true 0 n first)) (one_front (λ b. eqb b (code "!")) refl (drop n s) (rw (get_or-drop, add-zero) next)))
     go false e = inl refl
 
@@ -279,14 +279,14 @@ star_matches s at star end =
 pub accepted_matches : (s : List ℕ) → is_version s ≡ true → matches version_regex s
 unfolding is_version layout
 accepted_matches s h =
-    let (there, end) = both (has_release (layout s)) (ends_at s (layout s).local) h in
+    let (there, end) = and_parts (has_release (layout s)) (ends_at s (layout s).local) h in
     released_matches after_release s there (ends_matches s (layout s).release end)
 
 -- and what is read with a star, its expression
 pub star_taken : (s : List ℕ) → is_starred_at (layout s) s ≡ true → matches (released starred) s
 star_taken s h =
-    let (front, end) = both (has_release (layout s) && begins (bytes ".*") (drop (layout s).release s)) (ends_at s ((layout s).release + 2)) h in
-    let (there, star) = both (has_release (layout s)) (begins (bytes ".*") (drop (layout s).release s)) front in
+    let (front, end) = and_parts (has_release (layout s) && begins (bytes ".*") (drop (layout s).release s)) (ends_at s ((layout s).release + 2)) h in
+    let (there, star) = and_parts (has_release (layout s)) (begins (bytes ".*") (drop (layout s).release s)) front in
     released_matches starred s there (star_matches s (layout s).release star end)
 
 -- what is read as a pattern, the pattern's expression matches

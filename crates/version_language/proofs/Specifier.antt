@@ -14,7 +14,8 @@ use lib.ListN.{length, take, drop, take-append-drop, length-append}
 use lib.Seq.{drop_at, drop-drop}
 use Rattle.refusal.specs.Refusal.{span}
 use Rattle.refusal.specs.declared.place.Span.{Span}
-use Rattle.text.proofs.Cases.{both, by_order}
+use Rattle.text.proofs.Cases.{by_order}
+use Rattle.std.proofs.lemmas.Bool.{and_parts}
 use Rattle.text.proofs.Reach.{skip_from}
 use Rattle.text.proofs.Words.{spells_bytes}
 use Rattle.text.specs.Class.{is_space, is_digit, is_operator_byte}
@@ -57,7 +58,7 @@ pub record Specifier (s : List ℕ) : Type 0 where
 all_joined : (p : ℕ → Bool) (u v : List ℕ) → all p u ≡ true → all p v ≡ true → all p (u ++ v) ≡ true
 all_joined p [] v h k = k
 all_joined p (b ∷ u) v h k =
-    let (first, rest) = both (p b) (all p u) h in
+    let (first, rest) = and_parts (p b) (all p u) h in
     rw first (all_joined p u v rest k)
 
 -- an expression that white space may follow, since it ends in a test that white space passes
@@ -112,7 +113,7 @@ second_from K m k (some a rest e item again) l h = (a, rest ++ k, rw e (append_a
 two_matches : (s : List ℕ) → is_version s ≡ true → has_two (layout s) ≡ true → matches (begun (second after_release)) s
 unfolding is_version layout
 two_matches s h two =
-    let (there, end) = both (has_release (layout s)) (ends_at s (layout s).local) h in
+    let (there, end) = and_parts (has_release (layout s)) (ends_at s (layout s).local) h in
     let w = drop (layout s).first s in
     let r = more is_dot number_len w in
     let some : 0 < r = omega (arith, ltb-true (layout s).first (layout s).release two) in
@@ -146,7 +147,7 @@ module _ (op : Operator) (b v c : List ℕ) (before : all is_space b ≡ true) (
 
   suits_still : is_version v ≡ true → is_version w ≡ true → suits op (layout v) ≡ true → suits op (layout w) ≡ true
   suits_still old new h =
-      let (first, next) = both ((takes op).local || not (has_local (layout v))) (has_two (layout v) || not (takes op).two) h in
+      let (first, next) = and_parts ((takes op).local || not (has_local (layout v))) (has_two (layout v) || not (takes op).two) h in
       rw (local (takes op).local first, two (has_two (layout v)) refl next)
     where
       local : (t : Bool) → (t || not (has_local (layout v))) ≡ true → (t || not (has_local (layout w))) ≡ true
@@ -180,10 +181,10 @@ module _ (op : Operator) (b v c : List ℕ) (before : all is_space b ≡ true) (
     where
       go : (t : Bool) → (is_version_at (layout v) v && suits op (layout v)) ≡ t → (t || is_starred_at (layout v) v && (takes op).star) ≡ true → Goes
       go true e h =
-          let (old, fits) = both (is_version_at (layout v) v) (suits op (layout v)) e in
+          let (old, fits) = and_parts (is_version_at (layout v) v) (suits op (layout v)) e in
           version_still old fits
       go false e h =
-          let (old, star) = both (is_starred_at (layout v) v) (takes op).star h in
+          let (old, star) = and_parts (is_starred_at (layout v) v) (takes op).star h in
           star_still old star
 
 -- An operator is read where it is spelled

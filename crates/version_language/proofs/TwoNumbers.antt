@@ -1,5 +1,6 @@
 -- The release numbers that are read are the values of the numbers that stand there; "`~=` needs two release numbers" asks that there are two. Assumes
 -- nothing.
+use Rattle.std.proofs.lemmas.List.{drop-take}
 use mathlib.Core.Path.{◌≡◌, refl, sym, ap, ap₂, ◌∙◌}
 use mathlib.Core.Bool.{Bool, true, false}
 use mathlib.Core.List.{List, [], ◌∷◌, ◌++◌}
@@ -12,10 +13,10 @@ use borrow.Author.Tests.{lt-ltb, le-ltb, eqb-true}
 use lib.Dec.{ltb}
 use lib.ListN.{length, take, drop}
 use lib.Seq.{slice, take-add, drop-drop}
-use Rattle.text.proofs.Cases.{both}
+use Rattle.std.proofs.lemmas.Bool.{and_parts}
 use Rattle.text.specs.Class.{is_digit}
 use Rattle.text.specs.Scan.{byte_at}
-use Rattle.version_language.proofs.Places.{drop_take, Held, layout_holds}
+use Rattle.version_language.proofs.Places.{Held, layout_holds}
 use Rattle.version_language.proofs.Readings.{read_any}
 use Rattle.version_language.proofs.Whole.{value_whole, number_there, number_digits}
 use Rattle.version_language.specs.Appendix.{none, some as more, matches, all, many, ◌then◌, sign, number}
@@ -35,7 +36,7 @@ inside_number : (u w : List ℕ) → all is_digit u ≡ true → numbers_from tr
 unfolding numbers_from
 inside_number [] w h = refl
 inside_number (b ∷ u) w h =
-    let (first, rest) = both (is_digit b) (all is_digit u) h in
+    let (first, rest) = and_parts (is_digit b) (all is_digit u) h in
     rw first (inside_number u w rest)
 
 number_ends : (w : List ℕ) → is_digit (byte_at w 0) ≡ false → numbers_from true w ≡ numbers w
@@ -51,7 +52,7 @@ number_read u w m stop = go u (number_there u m) (number_digits u m)
     go : (u : List ℕ) → 0 < length u → all is_digit u ≡ true → numbers (u ++ w) ≡ value u ∷ numbers w
     go [] l h = absurd (omega arith)
     go (b ∷ u) l h =
-        let (first, rest) = both (is_digit b) (all is_digit u) h in
+        let (first, rest) = and_parts (is_digit b) (all is_digit u) h in
         rw first (ap₂ (λ (x : ℕ) (l : List ℕ). x ∷ l) (value_whole 0 (b ∷ u) w h stop) (inside_number u w rest ∙ number_ends w stop))
 
 pub others_stop : (m : List ℕ) → Others m → is_digit (byte_at m 0) ≡ false
@@ -72,7 +73,7 @@ others_some m (more a rest e (j, x, f, (b, g, h), k) again) l =
 -- what the release's numbers say, from the first of them on
 module _ (s : List ℕ) (at n r : ℕ) where
   pub release_joined : slice at (at + n + r) s ≡ slice at (at + n) s ++ slice (at + n) (at + n + r) s
-  release_joined = rw (add_assoc at n r, drop_take at (n + r) s, take-add n r (drop at s), drop_take at n s, ← add_assoc at n r, drop_take (at + n) r s, drop-drop n at s)
+  release_joined = rw (add_assoc at n r, drop-take at (n + r) s, take-add n r (drop at s), drop-take at n s, ← add_assoc at n r, drop-take (at + n) r s, drop-drop n at s)
 
   pub release_read : matches number (slice at (at + n) s) → Others (slice (at + n) (at + n + r) s) → numbers (slice at (at + n + r) s) ≡ value (slice at (at + n) s) ∷ numbers (slice (at + n) (at + n + r) s)
   release_read first others =
@@ -102,6 +103,6 @@ two_numbers s v star h =
     go : has_release (layout s) ≡ true → Held s (layout s) → has_two (layout s) ≡ ltb 1 (length (numbers (slice (layout s).epoch (layout s).release s)))
     go there held =
         let w = drop (layout s).first s in
-        let others : Others (take (Joined.more is_dot number_len w) w) = rw (drop_take (layout s).first (Joined.more is_dot number_len w) s) at held.others in
-        rw (release_read s (layout s).epoch (number_len (drop (layout s).epoch s)) (Joined.more is_dot number_len w) held.first held.others, drop_take (layout s).first (Joined.more is_dot number_len w) s)
+        let others : Others (take (Joined.more is_dot number_len w) w) = rw (drop-take (layout s).first (Joined.more is_dot number_len w) s) at held.others in
+        rw (release_read s (layout s).epoch (number_len (drop (layout s).epoch s)) (Joined.more is_dot number_len w) held.first held.others, drop-take (layout s).first (Joined.more is_dot number_len w) s)
         (goes_on (layout s).first (Joined.more is_dot number_len w) w (more_room w) others)

@@ -1,5 +1,6 @@
 -- What is read as a version is what the Appendix's groups say, each at its place: numbers are the values of the digits that the part's expression has
 -- there, a pre part's letter is its word's, and local segments are what stands between the separators. Assumes nothing.
+use Rattle.std.proofs.lemmas.List.{drop-take}
 use mathlib.Core.Path.{◌≡◌, refl, sym, ap, ◌∙◌}
 use mathlib.Core.Bool.{Bool, true, false, cond, not, true≢false}
 use mathlib.Core.List.{List, [], ◌∷◌, ◌++◌, map, append-nil}
@@ -12,14 +13,14 @@ use borrow.Author.Tests.{eqb-true, ltb-true, ltb-false, not-true}
 use lib.Dec.{ltb}
 use lib.ListN.{drop, take}
 use lib.Seq.{slice, slice_empty, drop-drop}
-use Rattle.text.proofs.Cases.{both}
+use Rattle.std.proofs.lemmas.Bool.{and_parts}
 use Rattle.text.specs.Class.{is_digit, is_separator, small}
 use Rattle.text.specs.Scan.{byte_at}
 use Rattle.text.specs.Word.{bytes}
 use Rattle.version_language.proofs.Bytes.{digit_ascii, separator_ascii, inside}
 use Rattle.version_language.proofs.Front.{word_there, no_separator}
 use Rattle.version_language.proofs.Parts.{labelled, pre_word, post_word, dev_word, local}
-use Rattle.version_language.proofs.Places.{drop_take, layout_holds}
+use Rattle.version_language.proofs.Places.{layout_holds}
 use Rattle.version_language.proofs.Readings.{read_any}
 use Rattle.version_language.proofs.Sound.{part_front, post_front, pre_word_lem, dev_word_lem, local_front}
 use Rattle.version_language.proofs.TwoNumbers.{number_read, others_stop, release_joined, release_read}
@@ -79,7 +80,7 @@ mute_read : (u w : List ℕ) → mute u ≡ true → numbers (u ++ w) ≡ number
 unfolding numbers_from
 mute_read [] w h = refl
 mute_read (b ∷ u) w h =
-    let (first, rest) = both (not (is_digit b)) (mute u) h in
+    let (first, rest) = and_parts (not (is_digit b)) (mute u) h in
     rw (not-true (is_digit b) first) (mute_read u w rest)
 
 separator_mute : (a : List ℕ) → matches (opt separator) a → mute a ≡ true
@@ -89,7 +90,7 @@ separator_mute a (inr (b, e, h)) = rw (e, inside is_separator (λ b. not (is_dig
 small_mute : (u : List ℕ) → mute (map small u) ≡ true → mute u ≡ true
 small_mute [] h = refl
 small_mute (b ∷ u) h =
-    let (first, rest) = both (not (is_digit (small b))) (mute (map small u)) h in
+    let (first, rest) = and_parts (not (is_digit (small b))) (mute (map small u)) h in
     rw (quiet (is_digit b) refl (not-true (is_digit (small b)) first), small_mute u rest)
   where
     quiet : (t : Bool) → is_digit b ≡ t → is_digit (small b) ≡ false → not (is_digit b) ≡ true
@@ -171,7 +172,7 @@ part_says P f r len absent front read s at = go (ltb at (past len s at)) refl
     go : (t : Bool) → ltb at (past len s at) ≡ t → P (slice at (past len s at) s) (cond t (some (f (slice at (past len s at) s))) none)
     go true e =
         let some : 0 < len (drop at s) = omega (arith, ltb-true at (past len s at) e) in
-        read (slice at (past len s at) s) (rw (drop_take at (len (drop at s)) s) (front (drop at s) some))
+        read (slice at (past len s at) s) (rw (drop-take at (len (drop at s)) s) (front (drop at s) some))
     go false e =
         let same : past len s at ≡ at = omega (arith, ltb-false at (past len s at) e) in
         rw (same, slice_empty at s) absent
@@ -186,7 +187,7 @@ local_says s at = go (ltb at (past local_len s at)) refl
     behind m e = sym (drop-drop 1 at (take (past local_len s at) s)) ∙ ap (drop 1) e
 
     part : matches local (take (local_len (drop at s)) (drop at s)) → matches local this
-    part m = rw (drop_take at (local_len (drop at s)) s) m
+    part m = rw (drop-take at (local_len (drop at s)) s) m
 
     found : matches local this → LocalSays this (map Reading.segment (pieces is_separator (slice (at + 1) (past local_len s at) s)))
     found (u, m, e, (b, f, h), rest) =

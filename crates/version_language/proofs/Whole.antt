@@ -9,7 +9,7 @@ use borrow.Author.Tests.{ltb-true, lt-ltb, le-ltb}
 use lib.Dec.{ltb}
 use lib.ListN.{length, drop, length-append}
 use lib.Seq.{drop_at}
-use Rattle.text.proofs.Cases.{both}
+use Rattle.std.proofs.lemmas.Bool.{and_parts}
 use Rattle.text.specs.Class.{is_digit, is_alnum, is_letter}
 use Rattle.text.specs.Scan.{run, byte_at}
 use Rattle.version_language.specs.Appendix.{Regex, none, some, matches, all, one, many, ◌then◌, number, segment, bounded}
@@ -27,7 +27,7 @@ module _ (p : ℕ → Bool) where
   unfolding run
   run_whole [] w h stop = run_none w stop
   run_whole (b ∷ u) w h stop =
-      let (first, rest) = both (p b) (all p u) h in
+      let (first, rest) = and_parts (p b) (all p u) h in
       rw (first, run_whole u w rest stop)
 
   -- a text that is not all of the class stops the run
@@ -48,28 +48,28 @@ value_whole v [] w h stop = go w stop
     go [] stop = refl
     go (b ∷ w) stop = rw stop
 value_whole v (b ∷ u) w h stop =
-    let (first, rest) = both (is_digit b) (all is_digit u) h in
+    let (first, rest) = and_parts (is_digit b) (all is_digit u) h in
     rw (first, value_whole (10 * v + (b - code "0")) u w rest stop)
 
 -- the tests that a number passed
 module _ (u : List ℕ) (m : matches number u) where
   pub number_there : 0 < length u
-  number_there = ltb-true 0 (length u) (both (ltb 0 (length u)) (all is_digit u) (both (ltb 0 (length u) && all is_digit u) (bounded u) m).0).0
+  number_there = ltb-true 0 (length u) (and_parts (ltb 0 (length u)) (all is_digit u) (and_parts (ltb 0 (length u) && all is_digit u) (bounded u) m).0).0
 
   pub number_digits : all is_digit u ≡ true
-  number_digits = (both (ltb 0 (length u)) (all is_digit u) (both (ltb 0 (length u) && all is_digit u) (bounded u) m).0).1
+  number_digits = (and_parts (ltb 0 (length u)) (all is_digit u) (and_parts (ltb 0 (length u) && all is_digit u) (bounded u) m).0).1
 
   pub number_whole : (w : List ℕ) → is_digit (byte_at w 0) ≡ false → number_len (u ++ w) ≡ length u
   unfolding number_len
   number_whole w stop =
-      rw (value_whole 0 u w number_digits stop, (both (ltb 0 (length u) && all is_digit u) (bounded u) m).1) (run_whole is_digit u w number_digits stop)
+      rw (value_whole 0 u w number_digits stop, (and_parts (ltb 0 (length u) && all is_digit u) (bounded u) m).1) (run_whole is_digit u w number_digits stop)
 
   pub number_first : (w : List ℕ) → is_digit (byte_at (u ++ w) 0) ≡ true
   number_first w = go u number_there number_digits
     where
       go : (u : List ℕ) → 0 < length u → all is_digit u ≡ true → is_digit (byte_at (u ++ w) 0) ≡ true
       go [] l h = absurd (omega arith)
-      go (b ∷ u) l h = (both (is_digit b) (all is_digit u) h).0
+      go (b ∷ u) l h = (and_parts (is_digit b) (all is_digit u) h).0
 
 pub number_none : (w : List ℕ) → is_digit (byte_at w 0) ≡ false → number_len w ≡ 0
 unfolding number_len
@@ -89,15 +89,15 @@ not_digit b h = go (is_letter b) (is_digit b) h
 
 module _ (u : List ℕ) (m : matches segment u) where
   segment_front : (ltb 0 (length u) && all is_alnum u) ≡ true
-  segment_front = (both (ltb 0 (length u) && all is_alnum u) (not (all is_digit u) || bounded u) m).0
+  segment_front = (and_parts (ltb 0 (length u) && all is_alnum u) (not (all is_digit u) || bounded u) m).0
 
   pub segment_there : 0 < length u
-  segment_there = ltb-true 0 (length u) (both (ltb 0 (length u)) (all is_alnum u) segment_front).0
+  segment_there = ltb-true 0 (length u) (and_parts (ltb 0 (length u)) (all is_alnum u) segment_front).0
 
   pub segment_whole : (w : List ℕ) → is_alnum (byte_at w 0) ≡ false → segment_len (u ++ w) ≡ length u
   unfolding segment_len
   segment_whole w stop =
-      rw (run_whole is_alnum u w (both (ltb 0 (length u)) (all is_alnum u) segment_front).1 stop) (go (all is_digit u) refl (both (ltb 0 (length u) && all is_alnum u) (not (all is_digit u) || bounded u) m).1)
+      rw (run_whole is_alnum u w (and_parts (ltb 0 (length u)) (all is_alnum u) segment_front).1 stop) (go (all is_digit u) refl (and_parts (ltb 0 (length u) && all is_alnum u) (not (all is_digit u) || bounded u) m).1)
     where
       go : (t : Bool) → all is_digit u ≡ t → (not t || bounded u) ≡ true → cond (ltb (run is_digit (u ++ w)) (length u)) (length u) (number_len (u ++ w)) ≡ length u
       go true digits enough =

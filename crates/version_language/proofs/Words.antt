@@ -9,7 +9,7 @@ use Prim.Native.Char.{code}
 use borrow.Author.Tests.{eqb-true, not-true}
 use lib.Dec.{eqb}
 use lib.ListN.{length, length-map, get_or-map}
-use Rattle.text.proofs.Cases.{both}
+use Rattle.std.proofs.lemmas.Bool.{and_parts}
 use Rattle.text.specs.Class.{is_digit, is_separator, small}
 use Rattle.text.specs.Scan.{byte_at}
 use Rattle.text.specs.Word.{bytes, begins, begins_by}
@@ -137,7 +137,7 @@ unfolding word_len begins_by
 no_words [] s h = refl
 no_words ([] ∷ ws) s h = absurd (false≢true h)
 no_words ((c ∷ w) ∷ ws) s h =
-    let (first, rest) = both (not (eqb (small (byte_at s 0)) c)) (clear ws (small (byte_at s 0))) h in
+    let (first, rest) = and_parts (not (eqb (small (byte_at s 0)) c)) (clear ws (small (byte_at s 0))) h in
     rw (silent s (not-true (eqb (small (byte_at s 0)) c) first), no_words ws s rest)
   where
     silent : (s : List ℕ) → eqb (small (byte_at s 0)) c ≡ false → says (c ∷ w) s ≡ false

@@ -13,7 +13,7 @@ use native.Mathlib.Numerals.{add-one}
 use Rattle.std.proofs.Common.{Bor}
 use mir.Syntax.{w64}
 use mir.Val.{Fits}
-use Rattle.text.proofs.Cases.{both}
+use Rattle.std.proofs.lemmas.Bool.{and_parts}
 use Rattle.text.proofs.Places.{places}
 use Rattle.cursor.proofs.Laws.{word}
 use Rattle.text.proofs.Words.{begins_fits}
@@ -118,7 +118,7 @@ pub no_letter : (words : List (List ℕ)) (s : List ℕ) → all_lettered words 
 unfolding word_len
 no_letter [] s low out = refl
 no_letter (w ∷ words) s low out =
-    let (first, rest) = both (lettered w) (all_lettered words) low in
+    let (first, rest) = and_parts (lettered w) (all_lettered words) low in
     rw (says_none w s first out) (no_letter words s rest out)
 
 pub lacks_word : (words : List (List ℕ)) (s : List ℕ) (at : ℕ) (r : Bool) → r ≡ not (is_letter (byte_at s at)) → r ≡ true → all_lettered words ≡ true → at ≡ past (word_len words) s at

@@ -39,6 +39,7 @@ impl Parts {
     }
 }
 
+// The three figures by which C tells a refusal, and no `Refusal`: the tools ask what C asks.
 pub fn put_refused(out: &mut Output, number: u8, start: usize, len: usize) {
     let _ = write!(out, "refused {number} {start} {len}");
 }
@@ -61,6 +62,7 @@ fn put_span(out: &mut Output, spans: &SpanNumbers, i: usize)
     let _ = write!(out, "{},{}", spans[first], spans[first + 1]);
 }
 
+// One row for each kind of entry, here and in `put_warning`: what they share is `put_list`.
 fn put_comparison(out: &mut Output, list: &Comparisons, i: usize)
     requires { i < max_comparisons }
 {
@@ -87,6 +89,7 @@ fn put_warning(out: &mut Output, list: &Warnings, i: usize)
 }
 
 // The three lists of a marker, and how many there are of each.
+// Three arrays and the counts, and no sheet: of a line the figures count, as C tells them, and not the sheet.
 pub fn put_marker(
     out: &mut Output,
     comparisons: &Comparisons,
@@ -114,6 +117,7 @@ pub fn put_marker(
     );
 }
 
+// By C's figures, as all of a line's: so no Display of a URL.
 fn put_url(out: &mut Output, figures: &LineFigures) {
     if figures[LINE_HAS_URL] == 0 {
         out.text(b" url=-");

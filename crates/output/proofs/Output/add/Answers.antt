@@ -1,17 +1,10 @@
 use Rattle.std.proofs.Common.{rules, ◌+◌, ◌++◌, length, arith, ap, ◌∙◌}
 use Rattle.std.proofs.lemmas.Slice.{take-put_mid}
-use Rattle.output.proofs.Gathered.{gathers_all, gathers_none, none_fits}
+use Rattle.output.proofs.Gathered.{gathers_all, gathers_none}
 use Rattle.output.proofs.Output.add.Goals as goal
 
 pub returns-then-self : goal.returns-then-self
 returns-then-self c = gathers_none _ _ _ (grind (rules, c.self.view_is, c.self.invariant, c.if-self.true)) (λ b l. grind (rules, b, c.self.view_is, c.if-self.true)) (λ t. t)
-
-pub returns-then-text-gt-ROOM : goal.returns-then-text-gt-ROOM
-returns-then-text-gt-ROOM c =
-    gathers_none _ _ _
-    (ap (λ g. g.bytes) c.self.view_is ∙ none_fits c.args.self.now _ c.requires c.if-text-gt-ROOM.true)
-    (λ b l. omega (arith, l, c.if-text-gt-ROOM.true))
-    (λ t. grind (rules, t, c.self.view_is, c.if-self.false))
 
 pub returns : goal.returns
 returns c =
