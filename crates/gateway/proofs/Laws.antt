@@ -6,7 +6,7 @@ use Prim.Native.Nat.{ℕ}
 use mir.Val.{bool_byte}
 use Rattle.std.specs.Prelude.{Result, Ok, Err, Option, Some, None, is_some}
 use Rattle.std.specs.Option.{UnwrapsOrElse}
-use Rattle.std.specs.Result.{ResultUnwrapsOrElse}
+use Rattle.std.specs.Result.{ResultUnwrapsOrElse, result_unwrap_or}
 use Rattle.refusal.specs.Answer.{Answer, good, refused, on_good, good_or}
 use Rattle.refusal.specs.Refusal.{span, told, given}
 use Rattle.refusal.specs.declared.place.Span.{Span}
@@ -35,6 +35,11 @@ figures_told f g none (refused n s l) (Err why) made D default x is =
     let start : why.span.start.0 ≡ s = cc in
     let len : why.span.len ≡ l = cc in
     rw (default x is, start, len)
+
+-- a good answer's value, or what is given for a refusal
+pub unwraps : {B : Type 0} (r : Result B Refusal) (d x : B) → x ≡ result_unwrap_or r d → ResultUnwrapsOrElse r (λ y. y ≡ d) x
+unwraps (Ok y) d x e = e
+unwraps (Err why) d x e = e
 
 -- a URL's three figures, in front of the rest
 pub url_told : (url : Option Span) (D : Span → Type 0) → ((y : Span) → D y → y ≡ span 0 0) → (at : Span) → UnwrapsOrElse url D at →

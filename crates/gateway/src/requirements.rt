@@ -10,7 +10,9 @@ ghost use Rattle.figures.specs.Numbers.{number_of, count_figures};
 ghost use Rattle.gateway.specs.Figures.{marker_figures, line_figures, lists_left};
 
 use figures::{CountFigures, LineFigures, MarkerFigures, tell};
-use marker_store::{Comparisons, Warnings, Words};
+use line::Figures;
+use marker_store::{Comparisons, Counts, Warnings, Words};
+use refusal::{Offset, Span};
 use spans::SpanNumbers;
 
 // The third figure is the number of extras.
@@ -41,7 +43,12 @@ pub fn hulmisker_marker(
     ensures words { words.new ≡ onto (entry_marking line.now).words words.old }
 {
     let answer = marker::read_quick(line, comparisons, warnings, words);
-    let counts = answer.unwrap_or_default();
+    // A refusal counts nothing.
+    let counts = answer.unwrap_or(Counts {
+        kept: 0,
+        warned: 0,
+        words: 0,
+    });
     *figures = [0, 0, counts.kept, counts.warned, counts.words];
     tell(&answer, figures)
 }
@@ -64,7 +71,21 @@ pub fn hulmisker_line(
         comparisons.old warnings.old words.old) }
 {
     let answer = line::read_line_into(line, extras, specifiers, comparisons, warnings, words);
-    let parts = answer.unwrap_or_default();
+    // A refused line has no parts.
+    let parts = answer.unwrap_or(Figures {
+        name: Span {
+            start: Offset(0),
+            len: 0,
+        },
+        extras: 0,
+        specifiers: 0,
+        url: None,
+        marker: Counts {
+            kept: 0,
+            warned: 0,
+            words: 0,
+        },
+    });
     let url = parts.url.unwrap_or_default();
     *figures = [
         0,

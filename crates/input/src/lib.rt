@@ -1,7 +1,7 @@
 // The lines of what is read, one by one. Bytes are fetched many at a time into an array that the caller lends.
 #![tactic(auto)]
 
-ghost use Rattle.std.specs.Prelude.{ℕ, List, min, ◌≡◌, ◌<◌, ◌≤◌, ◌++◌, ◌∷◌, [], length, take, drop, slice_set};
+ghost use Rattle.std.specs.Prelude.{ℕ, List, Option, IfSome, min, ◌≡◌, ◌<◌, ◌≤◌, ◌++◌, ◌∷◌, [], length, take, drop, slice_set};
 ghost use Rattle.std.specs.Io.KnownBytes.{Consumes};
 ghost use Rattle.input.specs.Coming.{coming, mark, IsLine, IsTrueEnd, IsNext};
 
@@ -78,6 +78,22 @@ fn next_byte<R: Read>(
     fetch(from, buf)
 }
 
+// A byte that is fetched already: the way of all but a few, kept apart since a `Result` of an error takes longer to hand on than a byte to take. None promises
+// nothing: `next_byte` is asked then.
+fn fetched_byte(buf: &[u8; ROOM], feed: Feed) -> Option<(u8, Feed)>
+    ensures { IfSome result (λ next. (left : Option (List ℕ))
+        → Consumes (coming feed buf.now left) (coming next.1 buf.now left) (next.0 ∷ [])) }
+{
+    if feed.at < feed.end && feed.at < ROOM {
+        let after = Feed {
+            at: feed.at + 1,
+            ..feed
+        };
+        return Some((buf[feed.at], after));
+    }
+    None
+}
+
 // (By an `if`: with `get_mut` the proof did not close.)
 fn hold(line: &mut [u8; HELD], at: usize, byte: u8)
     ensures { line.new ≡ slice_set line.old at byte }
@@ -115,16 +131,20 @@ pub fn take_line<R: Read>(
     let mut rest = feed;
     let mut last = 0;
     for len in 0..usize::MAX {
-        match next_byte(from, buf, rest) {
-            Ok(None) => return line_of(rest, len, last, Ended::ByEnd),
-            Err(why) => return line_of(rest, len, last, Ended::ByFault(why)),
-            Ok(Some((b'\n', after))) => return line_of(after, len, last, Ended::ByLineFeed),
-            Ok(Some((byte, after))) => {
-                hold(line, len, byte);
-                last = byte;
-                rest = after;
-            }
+        let (byte, after) = match fetched_byte(buf, rest) {
+            Some(next) => next,
+            None => match next_byte(from, buf, rest) {
+                Ok(Some(next)) => next,
+                Ok(None) => return line_of(rest, len, last, Ended::ByEnd),
+                Err(why) => return line_of(rest, len, last, Ended::ByFault(why)),
+            },
+        };
+        if byte == b'\n' {
+            return line_of(after, len, last, Ended::ByLineFeed);
         }
+        hold(line, len, byte);
+        last = byte;
+        rest = after;
     }
     line_of(rest, usize::MAX, last, Ended::ByEnd)
 }

@@ -17,7 +17,6 @@ use Rattle.marker_steps.specs.Marking.{is_kept, some, push, joint, words_from}
 use Rattle.marker_steps.specs.inner.Steps.{raw_of, joining, taking, emit}
 use Rattle.marker_store.specs.Sheet.{keeping, warning, pushed}
 use Rattle.marker_store.specs.declared.sheet.Sheet.{Sheet}
-use Rattle.marker_kind.specs.Code.{kind_number}
 use Rattle.marker_store.specs.declared.marks.Warning.{Warning}
 use Rattle.refusal.specs.declared.place.Span.{Span}
 
@@ -50,12 +49,12 @@ take_reads : (v : Verdict) (x : Span) (cs : List Comparison) (ws : List Warning)
 take_reads (Kept c) x cs ws ps h j g = rw (append-nil ws) (keep_reads c cs ws ps (omega arith) (omega arith))
 take_reads (KeptWarned c) x cs ws ps h j g =
     ap (keeping c) (warn_reads (warning_of 4 x) cs ws ps (omega arith)) ∙ keep_reads c cs (ws ++ (warning_of 4 x ∷ [])) ps (omega arith) (omega arith)
-take_reads (Ignored kind) x cs ws ps h j g = rw (append-nil cs, append-nil ps) (warn_reads (warning_of (kind_number kind) x) cs ws ps (omega arith))
+take_reads (Ignored kind) x cs ws ps h j g = rw (append-nil cs, append-nil ps) (warn_reads (warning_of kind x) cs ws ps (omega arith))
 take_reads (IgnoredTwice kind) x cs ws ps h j g =
     rw (append-nil cs, append-nil ps)
-    (ap (warning (warning_of (kind_number kind) x)) (warn_reads (warning_of (kind_number kind) x) cs ws ps (omega arith))
-    ∙ warn_reads (warning_of (kind_number kind) x) cs (ws ++ (warning_of (kind_number kind) x ∷ [])) ps (omega (arith, length-append ws (warning_of (kind_number kind) x ∷ [])))
-    ∙ ap (λ (l : List Warning). holding cs l ps) (append_assoc ws (warning_of (kind_number kind) x ∷ []) (warning_of (kind_number kind) x ∷ [])))
+    (ap (warning (warning_of kind x)) (warn_reads (warning_of kind x) cs ws ps (omega arith))
+    ∙ warn_reads (warning_of kind x) cs (ws ++ (warning_of kind x ∷ [])) ps (omega (arith, length-append ws (warning_of kind x ∷ [])))
+    ∙ ap (λ (l : List Warning). holding cs l ps) (append_assoc ws (warning_of kind x ∷ []) (warning_of kind x ∷ [])))
 
 join_reads : (x y : Bool) (v : ℕ) (cs : List Comparison) (ws : List Warning) (ps : List ℕ) → length ps + one x + one y ≤ 128 →
     joining x y v (holding cs ws ps) ≡ holding cs ws (ps ++ joint x y v)

@@ -5,7 +5,6 @@ use Rattle.marker_verdict.specs.Found.{found_at}
 use Rattle.marker_verdict.specs.declared.found.Found.{Found}
 use Rattle.marker_verdict.specs.declared.verdict.Verdict.{Verdict}
 use Rattle.marker_verdict.specs.declared.verdict.Verdict.TheVariants.{Kept, KeptWarned, Ignored, IgnoredTwice}
-use Rattle.marker_kind.specs.Code.{kind_number}
 use Rattle.marker_kind.specs.declared.kind.Comparison.{Comparison}
 use Rattle.marker_store.specs.declared.marks.Warning.{Warning}
 use Rattle.cursor.specs.Limits.{max_depth, max_comparisons}
@@ -39,8 +38,8 @@ warning_of kind x = record { kind = kind; span = x }
 abbrev pub warned_in : Verdict → Span → List Warning
 warned_in (Kept c) x = []
 warned_in (KeptWarned c) x = warning_of 4 x ∷ []
-warned_in (Ignored kind) x = warning_of (kind_number kind) x ∷ []
-warned_in (IgnoredTwice kind) x = warning_of (kind_number kind) x ∷ warning_of (kind_number kind) x ∷ []
+warned_in (Ignored kind) x = warning_of kind x ∷ []
+warned_in (IgnoredTwice kind) x = warning_of kind x ∷ warning_of kind x ∷ []
 
 -- the comparisons that a tree keeps, and the warnings that it gives, in the order of the line
 unfoldable pub kept_of : Tree → List Comparison

@@ -1,7 +1,6 @@
 // The steps of the reading that are no part of the cycle: each takes how far a part was read, and hands back how far it is read now. They take a refusal
 // too, and hand it on, so that the cycle need not look.
-ghost use Rattle.std.specs.Prelude.{true, false, ◌≡◌, ◌<◌, length};
-ghost use Rattle.marker_kind.specs.Code.{kind_number};
+ghost use Rattle.std.specs.Prelude.{true, false, ◌≡◌, ◌<◌, length, IfErr};
 ghost use Rattle.marker_steps.specs.Grammar.{kept_in, warned_in, warning_of, settle, word_ahead, and_word, or_word};
 ghost use Rattle.marker_steps.specs.inner.Steps.{shows, Inside, Takes, Slack, taking, read_after, onward, joined, closed_by, finished};
 
@@ -34,11 +33,11 @@ fn warned_in(verdict: Verdict) -> usize
     }
 }
 
-fn warning_of(kind: WarningKind, span: Span) -> Warning
-    ensures { result ≡ warning_of (kind_number kind) span }
+fn warning_of(kind: u8, span: Span) -> Warning
+    ensures { result ≡ warning_of kind span }
 {
     Warning {
-        kind: kind.number(),
+        kind: usize::from(kind),
         span,
     }
 }
@@ -52,7 +51,7 @@ fn write_down(verdict: Verdict, span: Span, sheet: &mut Sheet)
     match verdict {
         Verdict::Kept(comparison) => sheet.keep(comparison),
         Verdict::KeptWarned(comparison) => {
-            sheet.warn(warning_of(WarningKind::BadExtra, span));
+            sheet.warn(warning_of(WarningKind::BadExtra as u8, span));
             sheet.keep(comparison);
         }
         Verdict::Ignored(kind) => sheet.warn(warning_of(kind, span)),
@@ -67,7 +66,8 @@ fn write_down(verdict: Verdict, span: Span, sheet: &mut Sheet)
 #[tactic(auto, unfolding(crate::specs::Grammar::settle, crate::specs::Grammar::settled, crate::specs::inner::Steps::state_of, crate::specs::inner::Steps::emit, crate::specs::Marking::some))]
 pub fn take_in(found: Result<Found, Refusal>, sheet: &mut Sheet) -> Result<Part, Refusal>
     requires { Inside sheet.old.counts }
-    ensures { shows result sheet.new ≡ read_after (settle found) sheet.old }
+    ensures shown { shows result sheet.new ≡ read_after (settle found) sheet.old }
+    ensures left { IfErr result (λ why. sheet.new ≡ sheet.old) }
 {
     let Found {
         verdict,
@@ -148,7 +148,8 @@ pub fn join(
     word: u8,
 ) -> Result<Part, Refusal>
     requires { some_left ≡ true → Slack true (shows right sheet.old) }
-    ensures { shows result sheet.new ≡ joined some_left (shows right sheet.old) word }
+    ensures shown { shows result sheet.new ≡ joined some_left (shows right sheet.old) word }
+    ensures left { IfErr result (λ why. sheet.new ≡ sheet.old) }
 {
     let Part { next, some } = right?;
     if some_left && some {
@@ -164,7 +165,8 @@ pub fn join(
 #[tactic(auto, unfolding(crate::specs::inner::Steps::finished, crate::specs::inner::Steps::Slack))]
 pub fn finish(line: &[u8], whole: Result<Part, Refusal>, sheet: &mut Sheet) -> Result<Part, Refusal>
     requires { Slack false (shows whole sheet.old) }
-    ensures { shows result sheet.new ≡ finished line.now (shows whole sheet.old) }
+    ensures shown { shows result sheet.new ≡ finished line.now (shows whole sheet.old) }
+    ensures left { IfErr result (λ why. sheet.new ≡ sheet.old) }
 {
     let Part { next, some } = whole?;
     let at = next.skip_whitespace(line).at;

@@ -7,7 +7,6 @@ use Rattle.marker_kind.specs.declared.kind.Key.{Key}
 use Rattle.marker_kind.specs.declared.kind.Operator.{Operator}
 use Rattle.marker_kind.specs.declared.kind.Operator.TheVariants.{Equal, NotEqual, Less, LessEqual, Greater, GreaterEqual, Compatible, In, NotIn, Contains, NotContains}
 use Rattle.marker_kind.specs.declared.kind.Sort.{Sort}
-use Rattle.marker_kind.specs.declared.kind.WarningKind.TheVariants.{BadVersion, StringToName, StringCompatible, BadExtra, TwoLiterals}
 use Rattle.marker_value.specs.declared.value.Value.{Value}
 use Rattle.name.specs.Normal.{bad_at}
 use Rattle.refusal.specs.declared.place.Span.{Span}
@@ -69,17 +68,17 @@ is_list op = within 7 8 (operator_code op)
 -- list warns twice."
 abbrev pub version_verdict : List ℕ → Key → Operator → Span → Verdict
 version_verdict s key op at =
-    cond (is_list op) (cond (is_version_list (text_in s at)) (Kept (kept Sort.VersionList key op at)) (IgnoredTwice BadVersion))
-    (cond (may_go_with op (text_in s at)) (Kept (kept Sort.Version key op at)) (Ignored BadVersion))
+    cond (is_list op) (cond (is_version_list (text_in s at)) (Kept (kept Sort.VersionList key op at)) (IgnoredTwice 1))
+    (cond (may_go_with op (text_in s at)) (Kept (kept Sort.Version key op at)) (Ignored 1))
 
 -- "On the left no `.*` is allowed, and "contains" or "not contains" is kind 1."
 abbrev pub mirrored_verdict : List ℕ → Key → Operator → Span → Verdict
 mirrored_verdict s key op at =
-    cond (is_version (text_in s at) && may_go_with (mirror op) (text_in s at)) (Kept (kept Sort.Version key (mirror op) at)) (Ignored BadVersion)
+    cond (is_version (text_in s at) && may_go_with (mirror op) (text_in s at)) (Kept (kept Sort.Version key (mirror op) at)) (Ignored 1)
 
 -- "Kind 3: string key, `~=`, literal."
 abbrev pub string_verdict : Key → Operator → Span → Verdict
-string_verdict key op at = cond (is_compatible op) (Ignored StringCompatible) (Kept (kept Sort.String key op at))
+string_verdict key op at = cond (is_compatible op) (Ignored 3) (Kept (kept Sort.String key op at))
 
 -- "A literal that can't be normalised"
 abbrev pub bad_name : List ℕ → Bool
@@ -90,27 +89,27 @@ bad_name t = ltb (bad_at t) (length t)
 abbrev pub extra_verdict : List ℕ → Operator → Span → Verdict
 extra_verdict s op at =
     cond (is_equality op) (cond (bad_name (text_in s at)) (KeptWarned (kept (Sort.Extra Arbitrary) Key.Extra op at)) (Kept (kept (Sort.Extra Normal) Key.Extra op at)))
-    (cond (bad_name (text_in s at)) (IgnoredTwice BadExtra) (Ignored BadExtra))
+    (cond (bad_name (text_in s at)) (IgnoredTwice 4) (Ignored 4))
 
 -- "Kind 1: version key against no literal"
 abbrev pub version_left : List ℕ → Key → Operator → Value → Verdict
-version_left s key op (Value.Version other) = Ignored BadVersion
-version_left s key op (Value.String other) = Ignored BadVersion
-version_left s key op Value.Extra = Ignored BadVersion
+version_left s key op (Value.Version other) = Ignored 1
+version_left s key op (Value.String other) = Ignored 1
+version_left s key op Value.Extra = Ignored 1
 version_left s key op (Value.Quoted at) = version_verdict s key op at
 
 -- "Kind 2: string key against a name."
 abbrev pub string_left : Key → Operator → Value → Verdict
-string_left key op (Value.Version other) = Ignored StringToName
-string_left key op (Value.String other) = Ignored StringToName
-string_left key op Value.Extra = Ignored StringToName
+string_left key op (Value.Version other) = Ignored 2
+string_left key op (Value.String other) = Ignored 2
+string_left key op Value.Extra = Ignored 2
 string_left key op (Value.Quoted at) = string_verdict key op at
 
 -- "Kind 4: `extra` against a name"
 abbrev pub extra_left : List ℕ → Operator → Value → Verdict
-extra_left s op (Value.Version other) = Ignored BadExtra
-extra_left s op (Value.String other) = Ignored BadExtra
-extra_left s op Value.Extra = Ignored BadExtra
+extra_left s op (Value.Version other) = Ignored 4
+extra_left s op (Value.String other) = Ignored 4
+extra_left s op Value.Extra = Ignored 4
 extra_left s op (Value.Quoted at) = extra_verdict s op at
 
 -- "With the literal on the left the operator is mirrored"; of `~=` "With the literal first it is kept."; "Kind 5: two literals."
@@ -118,7 +117,7 @@ abbrev pub quoted_left : List ℕ → Span → Operator → Value → Verdict
 quoted_left s at op (Value.Version key) = mirrored_verdict s key op at
 quoted_left s at op (Value.String key) = Kept (kept Sort.String key (mirror op) at)
 quoted_left s at op Value.Extra = extra_verdict s op at
-quoted_left s at op (Value.Quoted other) = Ignored TwoLiterals
+quoted_left s at op (Value.Quoted other) = Ignored 5
 
 -- the left value decides
 abbrev pub verdict : List ℕ → Value → Operator → Value → Verdict

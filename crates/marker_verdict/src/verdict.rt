@@ -10,12 +10,13 @@ use refusal::Span;
 use version::{goes_with, is_version, is_version_list};
 
 // A kept comparison, without a warning or with one of kind 4; or an ignored one, with one or two warnings of a kind.
+// The kind is a number and no `WarningKind`: `take_in` of `marker_steps`, which docs/PROMISES.md names, takes and stores any.
 #[derive(Clone, Copy, Debug, PartialEq, Eq)]
 pub enum Verdict {
     Kept(Comparison),
     KeptWarned(Comparison),
-    Ignored(WarningKind),
-    IgnoredTwice(WarningKind),
+    Ignored(u8),
+    IgnoredTwice(u8),
 }
 
 // The operator as the other side sees it.
@@ -102,12 +103,12 @@ fn version_verdict(line: &[u8], key: Key, op: Operator, at: Span) -> Verdict
         if is_version_list(text_in(line, at)) {
             return Verdict::Kept(keeps(Sort::VersionList, key, op, at));
         }
-        return Verdict::IgnoredTwice(WarningKind::BadVersion);
+        return Verdict::IgnoredTwice(WarningKind::BadVersion as u8);
     }
     if may_go_with(op, text_in(line, at)) {
         return Verdict::Kept(keeps(Sort::Version, key, op, at));
     }
-    Verdict::Ignored(WarningKind::BadVersion)
+    Verdict::Ignored(WarningKind::BadVersion as u8)
 }
 
 fn mirrored_verdict(line: &[u8], key: Key, op: Operator, at: Span) -> Verdict
@@ -118,14 +119,14 @@ fn mirrored_verdict(line: &[u8], key: Key, op: Operator, at: Span) -> Verdict
     if is_version(text) & may_go_with(turned, text) {
         return Verdict::Kept(keeps(Sort::Version, key, turned, at));
     }
-    Verdict::Ignored(WarningKind::BadVersion)
+    Verdict::Ignored(WarningKind::BadVersion as u8)
 }
 
 fn string_verdict(key: Key, op: Operator, at: Span) -> Verdict
     ensures { result ≡ string_verdict key op at }
 {
     if is_compatible(op) {
-        return Verdict::Ignored(WarningKind::StringCompatible);
+        return Verdict::Ignored(WarningKind::StringCompatible as u8);
     }
     Verdict::Kept(keeps(Sort::String, key, op, at))
 }
@@ -142,9 +143,9 @@ fn extra_verdict(line: &[u8], op: Operator, at: Span) -> Verdict
         return Verdict::Kept(keeps(Sort::Extra(ExtraKind::Normal), Key::Extra, op, at));
     }
     if bad {
-        return Verdict::IgnoredTwice(WarningKind::BadExtra);
+        return Verdict::IgnoredTwice(WarningKind::BadExtra as u8);
     }
-    Verdict::Ignored(WarningKind::BadExtra)
+    Verdict::Ignored(WarningKind::BadExtra as u8)
 }
 
 // Here and in the two below the arms say what each kind of value comes to: one function for the three would take the kinds and the verdict as parameters, and be no plainer.
@@ -153,7 +154,7 @@ fn with_version_left(line: &[u8], key: Key, op: Operator, right: Value) -> Verdi
 {
     match right {
         Value::Version(_) | Value::String(_) | Value::Extra => Verdict::Ignored(
-            WarningKind::BadVersion,
+            WarningKind::BadVersion as u8,
         ),
         Value::Quoted(at) => version_verdict(line, key, op, at),
     }
@@ -164,7 +165,7 @@ fn with_string_left(key: Key, op: Operator, right: Value) -> Verdict
 {
     match right {
         Value::Version(_) | Value::String(_) | Value::Extra => Verdict::Ignored(
-            WarningKind::StringToName,
+            WarningKind::StringToName as u8,
         ),
         Value::Quoted(at) => string_verdict(key, op, at),
     }
@@ -175,7 +176,7 @@ fn with_extra_left(line: &[u8], op: Operator, right: Value) -> Verdict
 {
     match right {
         Value::Version(_) | Value::String(_) | Value::Extra => Verdict::Ignored(
-            WarningKind::BadExtra,
+            WarningKind::BadExtra as u8,
         ),
         Value::Quoted(at) => extra_verdict(line, op, at),
     }
@@ -188,7 +189,7 @@ fn with_quoted_left(line: &[u8], at: Span, op: Operator, right: Value) -> Verdic
         Value::Version(key) => mirrored_verdict(line, key, op, at),
         Value::String(key) => Verdict::Kept(keeps(Sort::String, key, mirrored(op), at)),
         Value::Extra => extra_verdict(line, op, at),
-        Value::Quoted(_) => Verdict::Ignored(WarningKind::TwoLiterals),
+        Value::Quoted(_) => Verdict::Ignored(WarningKind::TwoLiterals as u8),
     }
 }
 

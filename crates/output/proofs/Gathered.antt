@@ -1,9 +1,13 @@
-use Rattle.std.proofs.Common.{rules, ◌≡◌, ℕ, ◌+◌, ◌<◌, ◌≤◌, List, [], ◌++◌, length, Bool, true, false, arith, sym, ap, refl, ◌∙◌}
-use Rattle.std.proofs.lemmas.List.{append-nil, append_assoc}
+use Rattle.std.proofs.Common.{rules, ◌≡◌, ℕ, ◌+◌, ◌<◌, ◌≤◌, List, [], ◌++◌, length, take, Bool, true, false, arith, sym, ap, refl, ◌∙◌}
+use Rattle.std.proofs.lemmas.List.{append-nil, append_assoc, length-append, length-take-le}
 use Rattle.output.specs.Gathered.{Gathered, Gathers}
 
 not_both : {b : Bool} → b ≡ true → b ≡ false → ⊥
 not_both t u = grind (rules, t, u)
+
+-- as many wait as are counted
+pub counted : (g : Gathered) (buf : List ℕ) (waiting : ℕ) (broken : Bool) → record { bytes = take waiting buf; broken = broken } ≡ g → waiting ≤ length buf → length g.bytes ≡ waiting
+counted g buf waiting broken e l = sym (ap (λ (h : Gathered). length h.bytes) e) ∙ length-take-le waiting buf l
 
 -- nothing has left
 pub gathers_all : (old new : Gathered) (more : List ℕ) → old.broken ≡ false → new.bytes ≡ old.bytes ++ more → new.broken ≡ old.broken → Gathers old more new
@@ -17,6 +21,38 @@ whole_same : (old now new : Gathered) (text rest : List ℕ) → (now ≡ old) �
 whole_same old now new text rest e g =
     let h : Gathers old text new = rw (e.0, e.1) at g in
     h.whole
+
+-- what waits is written out first, since not all finds room
+pub gathers_flushed : (old mid new : Gathered) (more : List ℕ) → 65536 < length old.bytes + length more → mid.bytes ≡ [] → (old.broken ≡ true → mid.broken ≡ true) →
+    Gathers mid more new → Gathers old more new
+gathers_flushed old mid new more over none stays g = record {
+  last = (
+    old.bytes ++ g.last.0,
+    ap (λ l. old.bytes ++ l) (ap (λ l. l ++ more) (sym none) ∙ g.last.1) ∙ sym (append_assoc old.bytes g.last.0 new.bytes),
+  );
+  whole = λ u l. absurd (omega (arith, over, l));
+  dropped = λ t. g.dropped (stays t);
+}
+
+-- one text behind the other
+pub gathers_both : (old mid new : Gathered) (front back : List ℕ) → Gathers old front mid → Gathers mid back new → Gathers old (front ++ back) new
+gathers_both old mid new front back f g = record {
+  last = (
+    f.last.0 ++ g.last.0,
+    sym (append_assoc old.bytes front back)
+        ∙ ap (λ l. l ++ back) f.last.1
+        ∙ append_assoc f.last.0 mid.bytes back
+        ∙ ap (λ l. f.last.0 ++ l) g.last.1
+        ∙ sym (append_assoc f.last.0 g.last.0 new.bytes),
+  );
+  whole = λ u l.
+      let both : length front + length back ≡ length (front ++ back) = sym (length-append front back) in
+      let first = f.whole u (omega (arith, both, l)) in
+      let here : length mid.bytes ≡ length old.bytes + length front = ap length first.0 ∙ length-append old.bytes front in
+      let second = g.whole first.1 (omega (arith, both, here, l)) in
+      (second.0 ∙ ap (λ (l : List ℕ). l ++ back) first.0 ∙ append_assoc old.bytes front back, second.1);
+  dropped = λ t. g.dropped (f.dropped t).1;
+}
 
 -- how far a text is put that is put part by part: `rest` is still to come, and what was put went behind what waited before
 pub record Filling (old : Gathered) (text : List ℕ) (now : Gathered) (rest : List ℕ) : Type 0 where

@@ -108,8 +108,18 @@ impl Output {
         self.waiting = end;
     }
 
-    // The array is filled before it is written out.
     pub fn text(&mut self, text: &[u8])
+        ensures { Gathers self.old text.now self.new }
+    {
+        if text.len() <= ROOM - self.waiting {
+            self.add(text);
+        } else {
+            self.overflow(text);
+        }
+    }
+
+    // A text that finds no room whole: the array is filled before it is written out.
+    fn overflow(&mut self, text: &[u8])
         ensures { Gathers self.old text.now self.new }
     {
         let mut rest = text;
@@ -122,10 +132,26 @@ impl Output {
         self.add(rest);
     }
 
+    // One byte behind what waits, stored by itself: to copy a text of one byte takes longer.
+    fn add_byte(&mut self, byte: u8)
+        requires { length self.old.bytes + 1 ≤ 65536 }
+        ensures { Gathers self.old (byte ∷ []) self.new }
+    {
+        if !self.broken {
+            self.buf[self.waiting] = byte;
+            self.waiting += 1;
+        }
+    }
+
     pub fn put(&mut self, byte: u8)
         ensures { Gathers self.old (byte ∷ []) self.new }
     {
-        self.text(&[byte]);
+        if self.waiting < ROOM {
+            self.add_byte(byte);
+            return;
+        }
+        self.flush();
+        self.add_byte(byte);
     }
 
     // In decimal digits. (Not by `write!`: a contract knows what that put only where it answers `Ok`, which `write_str` cannot promise to all.)
@@ -141,7 +167,8 @@ impl Output {
     pub fn hex(&mut self, byte: u8)
         ensures { Gathers self.old (digit_glyph false (byte / 16) ∷ digit_glyph false (byte % 16) ∷ []) self.new }
     {
-        self.text(&[hex_digit(byte / 16), hex_digit(byte % 16)]);
+        self.put(hex_digit(byte / 16));
+        self.put(hex_digit(byte % 16));
     }
 }
 

@@ -33,7 +33,9 @@ pub fn put_accepted(out: &mut Output, line: &[u8], answer: &mut Answer) {
         figures[LINE_SPECIFIERS],
     );
     if let Some(url) = answer.url() {
-        let _ = writeln!(out, "    URL: {}", Shown(part(line, url)));
+        out.text(b"    URL: ");
+        Shown(part(line, url)).put(out);
+        out.put(b'\n');
     }
     put_comparisons(out, line, parts);
     put_warnings(out, line, parts);
@@ -49,7 +51,8 @@ fn put_spans(out: &mut Output, line: &[u8], label: &str, spans: &SpanNumbers, co
     let count = count.min(Cursor::MAX_LIST);
     let mut before = label;
     for span in &gather(spans, count)[..count] {
-        let _ = write!(out, "{before}{}", Shown(trimmed(part(line, *span))));
+        out.text(before.as_bytes());
+        Shown(trimmed(part(line, *span))).put(out);
         before = ", ";
     }
     out.put(b'\n');
@@ -66,12 +69,9 @@ fn quoted(line: &[u8], literal: Span) -> &[u8] {
 fn put_comparisons(out: &mut Output, line: &[u8], parts: &Parts) {
     for i in 0..parts.figures[LINE_COMPARISONS].min(Cursor::MAX_COMPARISONS) {
         let one = load_comparison(&parts.sheet.comparisons, i);
-        let literal = Shown(quoted(line, one.literal));
-        let _ = writeln!(
-            out,
-            "    comparison {i}: {} {} {literal} ({})",
-            one.key, one.operator, one.sort
-        );
+        let _ = write!(out, "    comparison {i}: {} {} ", one.key, one.operator);
+        Shown(quoted(line, one.literal)).put(out);
+        let _ = writeln!(out, " ({})", one.sort);
     }
 }
 
@@ -79,15 +79,13 @@ fn put_warnings(out: &mut Output, line: &[u8], parts: &Parts) {
     for i in 0..parts.figures[LINE_WARNINGS].min(Cursor::MAX_COMPARISONS) {
         let one = load_warning(&parts.sheet.warnings, i);
         let place = one.span;
-        let text = Shown(part(line, place));
-        let _ = writeln!(
+        let _ = write!(
             out,
-            "    warning of kind {} at {}, {}: {text}: {}",
-            one.kind,
-            place.start.0,
-            place.len,
-            meaning(one.kind)
+            "    warning of kind {} at {}, {}: ",
+            one.kind, place.start.0, place.len
         );
+        Shown(part(line, place)).put(out);
+        let _ = writeln!(out, ": {}", meaning(one.kind));
     }
 }
 

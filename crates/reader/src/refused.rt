@@ -47,8 +47,11 @@ impl Window {
     fn put_text(self, out: &mut Output, line: Line) {
         let before = if 0 < self.from { ".." } else { "" };
         let behind = if self.to < line.len { ".." } else { "" };
-        let text = Shown(between(line.held, self.from, self.to));
-        let _ = writeln!(out, "    {before}{text}{behind}");
+        out.text(b"    ");
+        out.text(before.as_bytes());
+        Shown(between(line.held, self.from, self.to)).put(out);
+        out.text(behind.as_bytes());
+        out.put(b'\n');
     }
 
     // A mark below each byte of the span that is shown, and one at least.

@@ -1,6 +1,6 @@
 // Parts of a line, and how they are shown.
+use output::Output;
 use refusal::Span;
-use std::fmt;
 use text::is_space;
 
 // The bytes from one place up to another, as far as they are held.
@@ -29,19 +29,26 @@ pub fn trimmed(whole: &[u8]) -> &[u8] {
 #[derive(Clone, Copy)]
 pub struct Shown<'a>(pub &'a [u8]);
 
-fn printable(byte: u8) -> char {
+// So many bytes are put at a time, which takes less than to put each.
+const AT_ONCE: usize = 64;
+
+fn printable(byte: u8) -> u8 {
     match byte {
-        b'\t' => ' ',
-        32..=126 => byte as char,
-        _ => '?',
+        b'\t' => b' ',
+        32..=126 => byte,
+        _ => b'?',
     }
 }
 
-impl fmt::Display for Shown<'_> {
-    fn fmt<W: fmt::Write>(&self, f: &mut fmt::Formatter<W>) -> fmt::Result {
-        for byte in self.0 {
-            f.write_char(printable(*byte))?;
+impl Shown<'_> {
+    // (No Display: through a formatter, which takes text and no bytes, short parts took a fourth longer.)
+    pub fn put(self, out: &mut Output) {
+        for some in self.0.chunks(AT_ONCE) {
+            let mut shown = [0u8; AT_ONCE];
+            for (to, byte) in shown.iter_mut().zip(some) {
+                *to = printable(*byte);
+            }
+            out.text(&shown[..some.len().min(AT_ONCE)]);
         }
-        Ok(())
     }
 }

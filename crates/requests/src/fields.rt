@@ -1,5 +1,5 @@
 // The parts of a request: its entry with the entry's numbers, and its bytes.
-ghost use Rattle.std.specs.Prelude.{◌<◌, IfSome};
+ghost use Rattle.std.specs.Prelude.{◌<◌, ◌≤◌, IfSome};
 
 use crate::DATA;
 
@@ -23,7 +23,9 @@ fn first_field(line: &[u8]) -> Option<(&[u8], &[u8])> {
 }
 
 // (Std's `to_digit` answers a u32, and takes capitals where the base is 16.)
-fn digit_of(byte: u8) -> Option<u8> {
+fn digit_of(byte: u8) -> Option<u8>
+    ensures { IfSome result (λ n. n ≤ 9) }
+{
     match byte {
         b'0'..=b'9' => Some(byte - b'0'),
         _ => None,
@@ -80,9 +82,8 @@ fn hex_value(byte: u8) -> Option<u8>
     ensures { IfSome result (λ n. n < 16) }
 {
     match byte {
-        b'0'..=b'9' => Some(byte - b'0'),
         b'a'..=b'f' => Some(byte - b'a' + 10),
-        _ => None,
+        _ => digit_of(byte),
     }
 }
 

@@ -4,4 +4,4 @@
 mod list;
 mod rows;
 
-pub use rows::{Parts, put_marker, put_parts, put_refused, put_spans};
+pub use rows::{Parts, put_marker, put_operator, put_parts, put_refused, put_spans};

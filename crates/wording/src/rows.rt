@@ -39,9 +39,19 @@ impl Parts {
     }
 }
 
+// Two numbers with a byte between. (Not by `write!`, here and below: its pieces took a third longer on lines with long lists.)
+fn put_pair(out: &mut Output, first: usize, between: u8, second: usize) {
+    out.number(first as u64);
+    out.put(between);
+    out.number(second as u64);
+}
+
 // The three figures by which C tells a refusal, and no `Refusal`: the tools ask what C asks.
 pub fn put_refused(out: &mut Output, number: u8, start: usize, len: usize) {
-    let _ = write!(out, "refused {number} {start} {len}");
+    out.text(b"refused ");
+    out.number(number as u64);
+    out.put(b' ');
+    put_pair(out, start, b' ', len);
 }
 
 // A list of spans, behind its label.
@@ -59,7 +69,7 @@ fn put_span(out: &mut Output, spans: &SpanNumbers, i: usize)
     requires { i < max_list }
 {
     let first = SPAN_NUMBERS * i;
-    let _ = write!(out, "{},{}", spans[first], spans[first + 1]);
+    put_pair(out, spans[first], b',', spans[first + 1]);
 }
 
 // One row for each kind of entry, here and in `put_warning`: what they share is `put_list`.
@@ -68,24 +78,35 @@ fn put_comparison(out: &mut Output, list: &Comparisons, i: usize)
 {
     let one = load_comparison(list, i);
     let _ = write!(out, "{},{},", one.sort, one.key);
-    put_operator(out, one.operator);
-    let _ = write!(out, ",{},{}", one.literal.start.0, one.literal.len);
+    put_operator(out, one.operator, b'_');
+    out.put(b',');
+    put_pair(out, one.literal.start.0, b',', one.literal.len);
 }
 
-// Without a blank, which would stand between two answers.
-fn put_operator(out: &mut Output, operator: Operator) {
-    let _ = match operator {
-        Operator::NotIn => write!(out, "not_in"),
-        Operator::NotContains => write!(out, "not_contains"),
-        _ => write!(out, "{operator}"),
-    };
+// An operator's words, with a byte between two of them. (In rows none is a blank, which would stand between two answers.)
+pub fn put_operator(out: &mut Output, operator: Operator, between: u8) {
+    match operator {
+        Operator::NotIn => put_not(out, between, b"in"),
+        Operator::NotContains => put_not(out, between, b"contains"),
+        _ => {
+            let _ = write!(out, "{operator}");
+        }
+    }
+}
+
+fn put_not(out: &mut Output, between: u8, word: &[u8]) {
+    out.text(b"not");
+    out.put(between);
+    out.text(word);
 }
 
 fn put_warning(out: &mut Output, list: &Warnings, i: usize)
     requires { i < max_comparisons }
 {
     let one = load_warning(list, i);
-    let _ = write!(out, "{},{},{}", one.kind, one.span.start.0, one.span.len);
+    out.number(one.kind as u64);
+    out.put(b',');
+    put_pair(out, one.span.start.0, b',', one.span.len);
 }
 
 // The three lists of a marker, and how many there are of each.
@@ -122,21 +143,20 @@ fn put_url(out: &mut Output, figures: &LineFigures) {
     if figures[LINE_HAS_URL] == 0 {
         out.text(b" url=-");
     } else {
-        let _ = write!(
-            out,
-            " url={},{}",
-            figures[LINE_URL_START], figures[LINE_URL_LENGTH]
-        );
+        out.text(b" url=");
+        put_pair(out, figures[LINE_URL_START], b',', figures[LINE_URL_LENGTH]);
     }
 }
 
 // All parts of an accepted line.
 pub fn put_parts(out: &mut Output, parts: &Parts) {
     let figures = &parts.figures;
-    let _ = write!(
+    out.text(b"name=");
+    put_pair(
         out,
-        "name={},{}",
-        figures[LINE_NAME_START], figures[LINE_NAME_LENGTH]
+        figures[LINE_NAME_START],
+        b',',
+        figures[LINE_NAME_LENGTH],
     );
     put_spans(out, b" extras=", &parts.extras, figures[LINE_EXTRAS]);
     put_spans(

@@ -1,7 +1,9 @@
 use Rattle.std.proofs.Common.{ℕ, ◌≡◌, ◌≢◌, ◌+◌, ◌-◌, min, List, [], ◌∷◌, ◌++◌, length, take, set, get_or, All, arith, ap, sym, ◌∙◌, length-append, length-set}
 use Rattle.std.proofs.lemmas.Grind.{common_steps}
 use Rattle.std.proofs.KnownBytes.{Consumes-trans}
-use Rattle.input.specs.Coming.{IsLine}
+use Rattle.std.specs.Io.KnownBytes.{Consumes}
+use Rattle.input.specs.Coming.{coming, IsLine}
+use Rattle.input.proofs.take_line.Goals.{in-Some, in-None+in-Ok-Some}
 use Rattle.input.proofs.take_line.Goals as goal
 
 all_more : (text : List ℕ) (b : ℕ) → All (λ x. x ≢ 10) text → b ≢ 10 → All (λ x. x ≢ 10) (text ++ b ∷ [])
@@ -28,8 +30,14 @@ one_more n last b front text room h was =
 pub loop-len-preserved : goal.loop-len-preserved
 loop-len-preserved g c =
     let so_far = c.loop-len.invariant in
-    let room : length c.loop-len.line ≡ 20001 = sym (length-set c.loop-len.line c.loop-len.len c.in-Ok-Some.byte) ∙ sym (ap length c.hold.ensures) ∙ c.hold.array_long in (
-      so_far.0 ++ c.in-Ok-Some.byte ∷ [],
-      rw c.hold.ensures (one_more c.loop-len.len c.loop-len.last c.in-Ok-Some.byte c.loop-len.line so_far.0 room c.in-Ok-Some.byte-test.1 so_far.1),
-      Consumes-trans _ _ _ so_far.0 (c.in-Ok-Some.byte ∷ []) so_far.2 (rw c.in-Ok-Some.field-0-is at c.in-Ok-Some.ensures),
+    let next = c.match-fetched_byte.byte in
+    let room : length c.loop-len.line ≡ 20001 = sym (length-set c.loop-len.line c.loop-len.len next.0) ∙ sym (ap length c.hold.ensures) ∙ c.hold.array_long in
+    let taken : Consumes (coming c.loop-len.rest c.loop-len.buf (g.R.Read.remaining c.loop-len.from)) (coming next.1 c.match-fetched_byte.buf (g.R.Read.remaining c.match-fetched_byte.from)) (next.0 ∷ []) =
+    elim c.match-fetched_byte.branch [
+      | in-Some w ↦ rw (w.byte-is, w.buf-is, w.from-is) (w.in-Some.ensures (g.R.Read.remaining c.loop-len.from))
+      | in-None+in-Ok-Some w ↦ rw (w.byte-is, w.buf-is, w.from-is) (rw w.in-Ok-Some.field-0-is at w.in-Ok-Some.ensures)
+    ] in (
+      so_far.0 ++ next.0 ∷ [],
+      rw c.hold.ensures (one_more c.loop-len.len c.loop-len.last next.0 c.loop-len.line so_far.0 room c.if-byte-eq10.false so_far.1),
+      Consumes-trans _ _ _ so_far.0 (next.0 ∷ []) so_far.2 taken,
     )

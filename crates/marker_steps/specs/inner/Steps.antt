@@ -3,7 +3,6 @@ use Prim.Native.Char.{code}
 use Rattle.std.specs.Prelude.{ℕ, ◌+◌, ◌-◌, ◌*◌, ◌≤◌, ◌<◌, Bool, true, false, cond, ◌||◌, List, ◌≡◌, ltb, eqb, length, Option, Some, None, Result, Ok, Err}
 use Rattle.marker_verdict.specs.declared.verdict.Verdict.{Verdict}
 use Rattle.marker_verdict.specs.declared.verdict.Verdict.TheVariants.{Kept, KeptWarned, Ignored, IgnoredTwice}
-use Rattle.marker_kind.specs.Code.{kind_number}
 use Rattle.arrays.specs.Front.{pad}
 use Rattle.marker_store.specs.Room.{comparisons_room, warnings_room}
 use Rattle.marker_store.specs.Sheet.{keeping, warning, pushed}
@@ -68,8 +67,8 @@ joining false d v r = r
 abbrev pub taking : Verdict → Span → Sheet → Sheet
 taking (Kept c) x r = keeping c r
 taking (KeptWarned c) x r = keeping c (warning (warning_of 4 x) r)
-taking (Ignored kind) x r = warning (warning_of (kind_number kind) x) r
-taking (IgnoredTwice kind) x r = warning (warning_of (kind_number kind) x) (warning (warning_of (kind_number kind) x) r)
+taking (Ignored kind) x r = warning (warning_of kind x) r
+taking (IgnoredTwice kind) x r = warning (warning_of kind x) (warning (warning_of kind x) r)
 
 -- the sheet with a tree read after it
 unfoldable pub emit : Tree → Sheet → Sheet

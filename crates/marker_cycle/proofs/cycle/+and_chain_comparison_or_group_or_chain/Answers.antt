@@ -29,16 +29,16 @@ and_chain-join-left-requires t c =
 pub and_chain-loop-next-smaller : goal.and_chain-loop-next-smaller
 and_chain-loop-next-smaller t c =
     let turn = turns _ _ _ _ _ _ _ _ _ _ _ c.loop-next.invariant c.in-Some.ensures in
-    turn_less _ _ _ _ _ _ _ _ _ _ _ _ _ turn (right_of _ _ _ (item_of c.args.line.now (group_at c.args.line.now c.args.depth)) c.in-Some.ensures c.comparison_or_group-right.ensures) c.join-left.ensures
+    turn_less _ _ _ _ _ _ _ _ _ _ _ _ _ turn (right_of _ _ _ (item_of c.args.line.now (group_at c.args.line.now c.args.depth)) c.in-Some.ensures c.comparison_or_group-right.ensures) c.join-left.ensures.shown
 
 pub and_chain-loop-next-preserved : goal.and_chain-loop-next-preserved
 and_chain-loop-next-preserved t c =
     let turn = turns _ _ _ _ _ _ _ _ _ _ _ c.loop-next.invariant c.in-Some.ensures in
-    turn_again _ _ _ _ _ _ _ _ _ _ _ _ _ turn (right_of _ _ _ (item_of c.args.line.now (group_at c.args.line.now c.args.depth)) c.in-Some.ensures c.comparison_or_group-right.ensures) c.join-left.ensures
+    turn_again _ _ _ _ _ _ _ _ _ _ _ _ _ turn (right_of _ _ _ (item_of c.args.line.now (group_at c.args.line.now c.args.depth)) c.in-Some.ensures c.comparison_or_group-right.ensures) c.join-left.ensures.shown
 
 pub comparison_or_group-returns-then-not-has : goal.comparison_or_group-returns-then-not-has
 comparison_or_group-returns-then-not-has t c =
-    rw (item_found _ _ _ _ _ c.skip_whitespace-here.ensures c.has.ensures c.if-not-has.true, ← c.find.ensures) c.take_in.ensures
+    rw (item_found _ _ _ _ _ c.skip_whitespace-here.ensures c.has.ensures c.if-not-has.true, ← c.find.ensures) c.take_in.ensures.shown
 
 pub comparison_or_group-returns-then-depth-eq0 : goal.comparison_or_group-returns-then-depth-eq0
 unfolding state_of
@@ -72,9 +72,9 @@ or_chain-join-left-requires t c =
 pub or_chain-loop-next-smaller : goal.or_chain-loop-next-smaller
 or_chain-loop-next-smaller t c =
     let turn = turns _ _ _ _ _ _ _ _ _ _ _ c.loop-next.invariant c.in-Some.ensures in
-    turn_less _ _ _ _ _ _ _ _ _ _ _ _ _ turn (right_of _ _ _ (and_of c.args.line.now (group_at c.args.line.now c.args.depth)) c.in-Some.ensures c.and_chain-right.ensures) c.join-left.ensures
+    turn_less _ _ _ _ _ _ _ _ _ _ _ _ _ turn (right_of _ _ _ (and_of c.args.line.now (group_at c.args.line.now c.args.depth)) c.in-Some.ensures c.and_chain-right.ensures) c.join-left.ensures.shown
 
 pub or_chain-loop-next-preserved : goal.or_chain-loop-next-preserved
 or_chain-loop-next-preserved t c =
     let turn = turns _ _ _ _ _ _ _ _ _ _ _ c.loop-next.invariant c.in-Some.ensures in
-    turn_again _ _ _ _ _ _ _ _ _ _ _ _ _ turn (right_of _ _ _ (and_of c.args.line.now (group_at c.args.line.now c.args.depth)) c.in-Some.ensures c.and_chain-right.ensures) c.join-left.ensures
+    turn_again _ _ _ _ _ _ _ _ _ _ _ _ _ turn (right_of _ _ _ (and_of c.args.line.now (group_at c.args.line.now c.args.depth)) c.in-Some.ensures c.and_chain-right.ensures) c.join-left.ensures.shown

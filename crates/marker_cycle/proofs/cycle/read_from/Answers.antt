@@ -5,4 +5,4 @@ pub finish-requires : goal.finish-requires
 finish-requires c = line_slack _ _ _ (line_state _ _ (counts_nothing c.args.sheet.now c.default-sheet.ensures c.requires) c.or_chain-whole.ensures)
 
 pub returns : goal.returns
-returns c = whole_state _ _ (counts_nothing c.args.sheet.now c.default-sheet.ensures c.requires) c.or_chain-whole.ensures c.finish.ensures
+returns c = whole_state _ _ (counts_nothing c.args.sheet.now c.default-sheet.ensures c.requires) c.or_chain-whole.ensures c.finish.ensures.shown

@@ -1,12 +1,7 @@
-use Rattle.std.proofs.Common.{◌≡◌, ℕ, ◌≤◌, List, length, take, arith, ap, sym, ◌∙◌}
-use Rattle.std.proofs.lemmas.List.{length-take-le, take-append-drop}
-use Rattle.output.specs.Gathered.{Gathered}
-use Rattle.output.proofs.Gathered.{filling_start, filling_turn, filling_end}
-use Rattle.output.proofs.Output.text.Goals as goal
-
--- as many wait as are counted
-counted : (g : Gathered) (buf : List ℕ) (waiting : ℕ) (broken : _) → record { bytes = take waiting buf; broken = broken } ≡ g → waiting ≤ length buf → length g.bytes ≡ waiting
-counted g buf waiting broken e l = sym (ap (λ (h : Gathered). length h.bytes) e) ∙ length-take-le waiting buf l
+use Rattle.std.proofs.Common.{ℕ, List, length, arith, ap, sym}
+use Rattle.std.proofs.lemmas.List.{take-append-drop}
+use Rattle.output.proofs.Gathered.{counted, filling_start, filling_turn, filling_end}
+use Rattle.output.proofs.Output.overflow.Goals as goal
 
 pub loop-self-init : goal.loop-self-init
 loop-self-init c = filling_start c.args.self.now c.args.text.now

@@ -1,6 +1,6 @@
 use Rattle.std.proofs.Common.{length, ◌+◌}
 use Rattle.output.proofs.Gathered.{Filling}
-use Rattle.output.proofs.Output.text.Given as goal
+use Rattle.output.proofs.Output.overflow.Given as goal
 
 abbrev pub invariant-loop-self : goal.invariant-loop-self
 invariant-loop-self l = Filling l.initial.self l.text l.self l.rest
