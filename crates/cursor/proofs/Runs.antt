@@ -1,19 +1,18 @@
--- A run is what the library counts as a prefix. Assumes nothing.
-use mathlib.Core.Path.{◌≡◌, refl, ◌∙◌}
-use mathlib.Core.Bool.{Bool}
-use mathlib.Core.List.{List, [], ◌∷◌}
-use native.Mathlib.Numerals.{one-add}
-use lib.ListN.{length, take}
-use Rattle.std.specs.List.{prefix_len}
-use Rattle.std.proofs.lemmas.List.Folds.{length-prefix_len}
-use Rattle.text.specs.Scan.{run}
+-- What the library finds to be ASCII is one run of it. Assumes nothing.
+use mathlib.Core.Path.{◌≡◌}
+use mathlib.Core.List.{List}
+use Prim.Native.Nat.{ℕ, ◌<◌}
+use native.Mathlib.Omega.{arith}
+use borrow.Author.Tests.{ltb-false}
+use lib.ListN.{length}
+use Rattle.std.specs.Str.{IsAscii}
+use Rattle.text.proofs.Laws.{skip_start}
+use Rattle.text.proofs.Reach.{run_le, skip_out}
+use Rattle.text.specs.Class.{is_ascii}
+use Rattle.text.specs.Scan.{run, skip}
 
-module _ {A : Type 0} (p : A → Bool) where
-  prefix_run : (s : List A) → prefix_len p s ≡ run p s
-  unfolding run
-  prefix_run [] = refl
-  prefix_run (b ∷ s) = rw (prefix_run s, one-add)
-
-  -- as many elements stand in a run as it is long
-  pub run_taken : (s : List A) → length (take (prefix_len p s) s) ≡ run p s
-  run_taken s = length-prefix_len p s ∙ prefix_run s
+-- where the library finds ASCII alone, the run goes to the end
+pub ascii_whole : (s : List ℕ) → IsAscii s → run is_ascii s ≡ length s
+ascii_whole s all =
+    let past : skip is_ascii s 0 < length s → ⊥ = λ q. let big = ltb-false _ 128 (skip_out is_ascii s 0 0 q) in absurd (omega (arith, all (skip is_ascii s 0))) in
+    omega (arith, skip_start is_ascii s, run_le is_ascii s)

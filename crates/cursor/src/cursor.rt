@@ -64,6 +64,7 @@ impl Cursor {
     }
 
     // The cursor behind the longest run of bytes from here that all are of a class.
+    #[tactic(auto, using(crate::proofs::Laws::scan))]
     pub fn take<F: Fn(u8) -> bool>(self, line: &[u8], class: F) -> Cursor
         requires { F.IsAlwaysCallable class }
         ensures { (p : ℕ → Bool) → ((b : ℕ) → (r : Bool) → F.post class b r → r ≡ p b)
@@ -72,8 +73,12 @@ impl Cursor {
         if line.len() <= self.at {
             return self;
         }
-        let run = line[self.at..].iter().take_while(|b| class(**b)).count();
-        Cursor { at: self.at + run }
+        for at in self.at..line.len() {
+            if !class(line[at]) {
+                return Cursor { at };
+            }
+        }
+        Cursor { at: line.len() }
     }
 
     // The scans by name, each one line over `take`: document 01 names the moves, and docs/PROMISES.md these.

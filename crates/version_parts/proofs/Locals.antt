@@ -1,24 +1,45 @@
 -- The laws of the local part and of its segments. Assumes nothing.
-use mathlib.Core.Path.{◌≡◌, sym, ap, ◌∙◌}
-use mathlib.Core.Bool.{Bool, true, false}
+use mathlib.Core.Path.{◌≡◌, refl, sym, ap, ◌∙◌}
+use mathlib.Core.Bool.{Bool, true, false, cond}
 use mathlib.Core.List.{List}
-use Prim.Native.Nat.{ℕ, ◌+◌, ◌≤◌, ◌<◌}
+use Prim.Native.Nat.{ℕ, zero, suc, ◌+◌, ◌≤◌, ◌<◌}
 use native.Mathlib.Nat.{add_assoc}
 use native.Mathlib.Omega.{arith}
 use borrow.Author.Tests.{lt-ltb, le-ltb}
-use lib.Dec.{eqb}
-use lib.ListN.{drop}
+use lib.Dec.{eqb, leb, ltb}
+use lib.ListN.{length, drop}
 use lib.Seq.{drop-drop}
+use Rattle.text.proofs.Cases.{by_order}
+use Rattle.text.proofs.Laws.{skip_stop, skip_end}
 use Rattle.text.specs.Class.{is_digit, is_alnum, is_separator}
 use Rattle.text.specs.Scan.{run, skip, byte_at}
 use Rattle.version_parts.proofs.Joins.{joint}
 use Rattle.version_parts.proofs.Parts.{byte_drop}
 use Rattle.version_parts.specs.Joined.{more}
 use Rattle.version_parts.specs.Local.{segment_len, local_len}
-use Rattle.version_number.specs.Number.{number_len}
+use Rattle.version_number.specs.Number.{number_len, value, largest}
 use Rattle.version_number.specs.Place.{past}
 
+-- letters and digits alone, whether or not what is no number would be too large
+led : (n : ℕ) (small : Bool) → cond (ltb 0 n) n (cond small 0 0) ≡ n
+led zero true = refl
+led zero false = refl
+led (suc n) small = rw (lt-ltb 0 (suc n) (omega arith)) refl
+
 module _ (s : List ℕ) (at : ℕ) where
+  -- a local segment that no digit starts
+  module _ (r : Bool) (test : r ≡ is_digit (byte_at s at)) (miss : r ≡ false) where
+    no_digits : run is_digit (drop at s) ≡ 0
+    unfolding skip
+    no_digits =
+        by_order at (length s)
+        (λ within. omega (arith, skip_stop is_digit s at 0 within (sym test ∙ miss)))
+        (λ past. omega (arith, skip_end is_digit s at past))
+
+    pub segment_led : (all : ℕ) → all ≡ skip is_alnum s at → all ≡ past segment_len s at
+    unfolding segment_len number_len skip
+    segment_led all found = rw (no_digits, led (run is_alnum (drop at s)) (leb (value (drop at s)) largest)) found
+
   -- a local segment
   module _ (digits all : ℕ) (told : digits ≡ skip is_digit s at) (found : all ≡ skip is_alnum s at) where
     pub segment_lettered : digits < all → all ≡ past segment_len s at
@@ -50,4 +71,4 @@ module _ (s : List ℕ) (at : ℕ) where
           rw (byte_drop s at, ← test, h, lt-ltb 0 (segment_len (drop 1 (drop at s))) (omega (arith, first_is)))
           (omega (arith, end, ap (more is_separator segment_len) rest, first_is))
 
-pub ruleset locals = (segment_lettered, segment_number, local_none, local_short, local_there, joint)
+pub ruleset locals = (segment_led, segment_lettered, segment_number, local_none, local_short, local_there, joint)

@@ -5,7 +5,7 @@ ghost use Rattle.version_number.specs.Place.{past};
 
 use crate::joined::items_end;
 use cursor::Cursor;
-use text::{has, is_separator};
+use text::{byte_at, has, is_digit, is_separator};
 use version_number::number_end;
 
 // The place behind the segment at a place: letters and digits, and all digits only if they are a number.
@@ -14,8 +14,12 @@ fn segment_end(text: &[u8], at: usize) -> usize
     ensures { result ≡ past segment_len text.now at }
 {
     let from = Cursor { at };
-    let digits = from.take_digits(text).at;
     let all = from.take_alnum(text).at;
+    // A segment that starts with a letter is no number: no second look at it.
+    if !is_digit(byte_at(text, at)) {
+        return all;
+    }
+    let digits = from.take_digits(text).at;
     if digits < all {
         return all;
     }
