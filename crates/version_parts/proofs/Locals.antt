@@ -20,7 +20,7 @@ use Rattle.version_parts.specs.Local.{segment_len, local_len}
 use Rattle.version_number.specs.Number.{number_len, value, largest}
 use Rattle.version_number.specs.Place.{past}
 
--- letters and digits alone, whether or not what is no number would be too large
+-- where no digit leads, a segment is its run of letters and digits, whatever the test for size says
 led : (n : ℕ) (small : Bool) → cond (ltb 0 n) n (cond small 0 0) ≡ n
 led zero true = refl
 led zero false = refl

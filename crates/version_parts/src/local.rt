@@ -15,7 +15,7 @@ fn segment_end(text: &[u8], at: usize) -> usize
 {
     let from = Cursor { at };
     let all = from.take_alnum(text).at;
-    // A segment that starts with a letter is no number: no second look at it.
+    // A segment that no digit starts is no number: no second look at it.
     if !is_digit(byte_at(text, at)) {
         return all;
     }
